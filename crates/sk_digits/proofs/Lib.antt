@@ -1,0 +1,4 @@
+pub mod Capped
+pub mod Padded
+pub mod Weights
+pub mod ReadBack

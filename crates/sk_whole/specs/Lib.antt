@@ -1,0 +1,4 @@
+pub mod Whole
+pub mod Division
+pub mod Sums
+pub mod Laws
