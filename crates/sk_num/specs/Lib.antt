@@ -1,0 +1,10 @@
+pub mod Scale
+pub mod Limit
+pub mod Rounding
+pub mod Ends
+pub mod Enclosed
+pub mod KernelLaws
+pub mod EnclosedLemmas
+pub mod SpanLaws
+pub mod Decimals
+pub mod Spelling

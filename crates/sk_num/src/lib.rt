@@ -1,0 +1,32 @@
+//! Numbers on a binary grid, spans of them, and what evaluation over either encloses.
+//!
+//! A grid number counts units of 2^-S millimetre (or 2^-S of a plain number), at most 2^62 either
+//! way. A span is the numbers between two grid numbers; its operations round outward, so that it
+//! encloses every exact result. `Kernel` is the trait of numbers that enclose: what is evaluated
+//! over it encloses the exact value. `S`, the scale, is 36.
+#![tactic(auto)]
+
+mod fault;
+mod grid;
+mod items;
+mod kernel;
+mod mat;
+mod roots;
+mod rounding;
+mod span;
+mod spelling;
+
+pub use fault::{NumFault, PastLimit};
+pub use grid::Grid;
+pub use items::{Items, Text};
+pub use kernel::{Kernel, OfGrid};
+pub use mat::{Mat, SpanMat};
+pub use roots::{isqrt_ceil, isqrt_floor, root};
+pub use rounding::{rdiv, rmul};
+pub use span::Span;
+pub use spelling::{
+    QuantityText, handle_text, quantity_text, read_handle, read_quantity, read_whole,
+};
+
+#[cfg(test)]
+mod tests;
