@@ -1,0 +1,4 @@
+pub mod Handles
+pub mod Standings
+pub mod Needs
+pub mod Sizes

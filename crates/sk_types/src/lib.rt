@@ -1,0 +1,66 @@
+//! The typed model as plain data: handles, groups, requests, constraints, entities and numbers.
+//!
+//! A handle names a thing of one kind; 0 names none. Entities and parameters of a request or a
+//! group carry its number in their handle.
+#![tactic(auto)]
+
+mod constraint;
+mod entity;
+mod group;
+mod handle;
+mod request;
+mod standing;
+
+pub use constraint::{Constraint, Need, PartKind, constraint_sizes, fits};
+pub use entity::{Act, Entity, Numbering, Numbers, Outline, ParamValue};
+pub use group::{Group, GroupKind, RemapEntry};
+pub use handle::{ConstraintId, EntityId, GroupId, Maker, ParamId, RequestId};
+pub use request::Request;
+pub use standing::{Standing, constraint_standing, group_standing, request_standing};
+
+#[cfg(test)]
+mod tests {
+    use super::{EntityId, Group, GroupId, GroupKind, RemapEntry};
+    use sk_num::{Grid, Items, Text};
+    use std::test::Fail;
+
+    #[test]
+    fn a_group_is_copied_whole(rt: HostRuntime) -> Result<(), Fail> {
+        let alloc = rt.alloc();
+        let none = EntityId(0);
+        let entry = RemapEntry {
+            number: 3,
+            source: EntityId(0x40000),
+            copy: 1001,
+        };
+        let group = Group::<36> {
+            id: GroupId(3),
+            kind: GroupKind::Extrude,
+            order: 2,
+            active: none,
+            source: GroupId(2),
+            copies: 0,
+            two_sided: true,
+            skip_first: false,
+            by_lines: false,
+            quaternion: [Grid::zero(); 4],
+            origin: none,
+            entity_b: EntityId(0x10000),
+            entity_c: none,
+            swap_uv: false,
+            negate_u: false,
+            negate_v: true,
+            scale: Grid::zero(),
+            remap: Items::of(vec![in alloc; entry]?),
+            part: Text::of(String::from_str(alloc, "part.slvs")?),
+        };
+        let copy = group.copy(alloc)?;
+        assert_eq!(rt; copy.remap.as_slice(), group.remap.as_slice());
+        assert_eq!(rt; copy.part.as_str(), "part.slvs");
+        assert_eq!(rt;
+            (copy.source, copy.two_sided, copy.negate_v),
+            (GroupId(2), true, true)
+        );
+        Ok(())
+    }
+}
