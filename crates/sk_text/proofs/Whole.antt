@@ -4,7 +4,7 @@ use Rattle.std.specs.List.{All, flat_map}
 use Rattle.std.proofs.lemmas.List.Elements.{All-nil, All-cons}
 use Rattle.std.proofs.Math.Seq.{drop-append_seam, take-append_seam, get_or-append_seam}
 use Rattle.std.proofs.lemmas.Bool.{ne_eqb, eq-eqb, eqb-true, cases_eq}
-use Rattle.std.proofs.lemmas.List.{take-append-drop, append-nil, take_at, drop_at, drop_all}
+use Rattle.std.proofs.lemmas.List.{take-append-drop, append-nil, take_at, drop_at, drop_all, map-append}
 use Rattle.sk_text.specs.Lines.{TextLine, line_at, line_bytes, joined, onto_first, whole_lines, end_len, cut, lines_in, placed_from, lines_of, IsPart, is_empty, NoFeed, ends_in_return, IsEnd, IsEnded, IsUnended, AreLines}
 
 two : (t : Bool) → (t ≡ true) ⊎ (t ≡ false)
@@ -150,16 +150,16 @@ end_unfed l e = rw e refl
 
 last_fed : (front : List ℕ) → get_or (front ++ 10 ∷ []) (length (front ++ 10 ∷ []) - 1) 0 ≡ 10
 last_fed front =
-  let n : length (front ++ 10 ∷ []) - 1 ≡ length front = omega (arith, length-append front (10 ∷ [])) in
-  rw (n, get_or-append_seam front 10 [] 0) refl
+    let n : length (front ++ 10 ∷ []) - 1 ≡ length front = omega (arith, length-append front (10 ∷ [])) in
+    rw (n, get_or-append_seam front 10 [] 0) refl
 
 -- the byte before the line feed
 return_before : (front : List ℕ) → nat_eq (get_or (front ++ 10 ∷ []) (length (front ++ 10 ∷ []) - 2) 0) 13 ≡ ends_in_return front
 return_before [] = refl
 return_before (b ∷ []) = refl
 return_before (b ∷ (c ∷ cs)) =
-  let n : length (b ∷ (c ∷ cs) ++ 10 ∷ []) - 2 ≡ suc (length ((c ∷ cs) ++ 10 ∷ []) - 2) = omega (arith, length-append cs (10 ∷ [])) in
-  rw n (return_before (c ∷ cs))
+    let n : length (b ∷ (c ∷ cs) ++ 10 ∷ []) - 2 ≡ suc (length ((c ∷ cs) ++ 10 ∷ []) - 2) = omega (arith, length-append cs (10 ∷ [])) in
+    rw n (return_before (c ∷ cs))
 
 end_fed : (front : List ℕ) → end_len (front ++ 10 ∷ []) ≡ cond (ends_in_return front) 2 1
 unfolding end_len
@@ -169,14 +169,14 @@ split_return : (front : List ℕ) → ends_in_return front ≡ true → NoFeed f
 split_return [] e clear = cc
 split_return (b ∷ []) e clear = ([], (ap (λ x. x ∷ []) (eqb-true b 13 e), tt))
 split_return (b ∷ (c ∷ cs)) e clear =
-  let more = split_return (c ∷ cs) e clear.1 in
-  (b ∷ more.0, (ap (λ r. b ∷ r) more.1.0, (clear.0, more.1.1)))
+    let more = split_return (c ∷ cs) e clear.1 in
+    (b ∷ more.0, (ap (λ r. b ∷ r) more.1.0, (clear.0, more.1.1)))
 
 -- a line that is its body and an end as long as its bytes have is cut into these
 cut_line : (l : TextLine) → end_len (line_bytes l) ≡ length l.ending → cut (line_bytes l) ≡ l
 cut_line l is =
-  let n : length (l.body ++ l.ending) - length l.ending ≡ length l.body = omega (arith, length-append l.body l.ending) in
-  rw (is, n, take_at l.body l.ending (length l.body) refl, drop_at l.body l.ending (length l.body) refl) refl
+    let n : length (l.body ++ l.ending) - length l.ending ≡ length l.body = omega (arith, length-append l.body l.ending) in
+    rw (is, n, take_at l.body l.ending (length l.body) refl, drop_at l.body l.ending (length l.body) refl) refl
 
 fed_line : (l : TextLine) → IsEnded l → (front : List ℕ) × ((line_bytes l ≡ front ++ 10 ∷ []) × (NoFeed front × (end_len (line_bytes l) ≡ length l.ending)))
 fed_line l is = by_end is.end
@@ -184,19 +184,21 @@ fed_line l is = by_end is.end
     no_feed : (body : List ℕ) → NoFeed body → NoFeed (body ++ 13 ∷ [])
     no_feed [] clear = (refl, tt)
     no_feed (b ∷ body) clear = (clear.0, no_feed body clear.1)
+
     return_last : (body : List ℕ) → ends_in_return (body ++ 13 ∷ []) ≡ true
     return_last [] = refl
     return_last (b ∷ []) = refl
     return_last (b ∷ (c ∷ cs)) = return_last (c ∷ cs)
+
     by_end : IsEnd l.body l.ending → (front : List ℕ) × ((line_bytes l ≡ front ++ 10 ∷ []) × (NoFeed front × (end_len (line_bytes l) ≡ length l.ending)))
     by_end (inl e) = (l.body, (ap (λ x. l.body ++ x) e.0, (is.clear, rw e.0 (end_fed l.body ∙ rw e.1 refl))))
     by_end (inr e) =
-      let bytes : l.body ++ (13 ∷ 10 ∷ []) ≡ (l.body ++ 13 ∷ []) ++ 10 ∷ [] = sym (append_assoc l.body (13 ∷ []) (10 ∷ [])) in
-      (l.body ++ 13 ∷ [], (ap (λ x. l.body ++ x) e ∙ bytes, (no_feed l.body is.clear, rw e (ap end_len bytes ∙ end_fed (l.body ++ 13 ∷ []) ∙ rw (return_last l.body) refl))))
+        let bytes : l.body ++ (13 ∷ 10 ∷ []) ≡ (l.body ++ 13 ∷ []) ++ 10 ∷ [] = sym (append_assoc l.body (13 ∷ []) (10 ∷ [])) in
+        (l.body ++ 13 ∷ [], (ap (λ x. l.body ++ x) e ∙ bytes, (no_feed l.body is.clear, rw e (ap end_len bytes ∙ end_fed (l.body ++ 13 ∷ []) ∙ rw (return_last l.body) refl))))
 
 fed_ended : (l : List ℕ) → Fed l → IsEnded (cut l)
 fed_ended l fed = elim (two (ends_in_return fed.front)) [
-    inl e ↦ (
+  | inl e ↦ (
       let split = split_return fed.front e fed.clear in
       let t : TextLine = record { body = split.0; ending = 13 ∷ 10 ∷ [] } in
       let is : IsEnded t = record { clear = split.1.1; end = inr refl } in
@@ -205,15 +207,16 @@ fed_ended l fed = elim (two (ends_in_return fed.front)) [
   | inr e ↦ (
       let t : TextLine = record { body = fed.front; ending = 10 ∷ [] } in
       let is : IsEnded t = record { clear = fed.clear; end = inl (refl, e) } in
-      subst IsEnded (sym (ap cut fed.bytes ∙ cut_line t (fed_line t is).1.1.1)) is) ]
+      subst IsEnded (sym (ap cut fed.bytes ∙ cut_line t (fed_line t is).1.1.1)) is)
+]
 
 unfed_unended : (l : List ℕ) → Unfed l → IsUnended (cut l)
 unfed_unended l un =
-  let t : TextLine = record { body = un.first ∷ un.more; ending = [] } in
-  let is : IsUnended t = record { clear = un.clear; some = refl; none = refl } in
-  let same : line_bytes t ≡ un.first ∷ un.more = append-nil (un.first ∷ un.more) in
-  let none : end_len (line_bytes t) ≡ 0 = rw same (end_unfed (un.first ∷ un.more) (clear_at (un.first ∷ un.more) (length (un.first ∷ un.more) - 1) (omega arith) un.clear)) in
-  subst IsUnended (sym (ap cut (un.bytes ∙ sym same) ∙ cut_line t none)) is
+    let t : TextLine = record { body = un.first ∷ un.more; ending = [] } in
+    let is : IsUnended t = record { clear = un.clear; some = refl; none = refl } in
+    let same : line_bytes t ≡ un.first ∷ un.more = append-nil (un.first ∷ un.more) in
+    let none : end_len (line_bytes t) ≡ 0 = rw same (end_unfed (un.first ∷ un.more) (clear_at (un.first ∷ un.more) (length (un.first ∷ un.more) - 1) (omega arith) un.clear)) in
+    subst IsUnended (sym (ap cut (un.bytes ∙ sym same) ∙ cut_line t none)) is
 
 cuts_ended : (ls : List (List ℕ)) → AreWhole ls → AreLines (map cut ls)
 cuts_ended [] are = tt
@@ -240,12 +243,12 @@ whole_last b (c ∷ a) clear = rw (clear.0, whole_last c a clear.1) refl
 
 ended_line : (l : TextLine) (rest : List ℕ) → IsEnded l → lines_in (line_bytes l ++ rest) ≡ l ∷ lines_in rest
 ended_line l rest is =
-  let fed = fed_line l is in
-  ap (λ t. lines_in (t ++ rest)) fed.1.0
-  ∙ ap lines_in (append_assoc fed.0 (10 ∷ []) rest)
-  ∙ ap (map cut) (whole_front fed.0 rest fed.1.1.0)
-  ∙ ap (λ t. cut t ∷ lines_in rest) (sym fed.1.0)
-  ∙ ap (λ m. m ∷ lines_in rest) (cut_line l fed.1.1.1)
+    let fed = fed_line l is in
+    ap (λ t. lines_in (t ++ rest)) fed.1.0
+    ∙ ap lines_in (append_assoc fed.0 (10 ∷ []) rest)
+    ∙ ap (map cut) (whole_front fed.0 rest fed.1.1.0)
+    ∙ ap (λ t. cut t ∷ lines_in rest) (sym fed.1.0)
+    ∙ ap (λ m. m ∷ lines_in rest) (cut_line l fed.1.1.1)
 
 unended_line : (l : TextLine) → IsUnended l → lines_in (line_bytes l) ≡ l ∷ []
 unended_line l is = by_body l.body l.ending is.clear is.some is.none
@@ -253,10 +256,10 @@ unended_line l is = by_body l.body l.ending is.clear is.some is.none
     by_body : (body ending : List ℕ) → NoFeed body → is_empty body ≡ false → ending ≡ [] → lines_in (body ++ ending) ≡ record { body = body; ending = ending } ∷ []
     by_body [] ending clear some none = cc
     by_body (b ∷ body) ending clear some none =
-      let t : TextLine = record { body = b ∷ body; ending = [] } in
-      let same : line_bytes t ≡ b ∷ body = append-nil (b ∷ body) in
-      let zero_end : end_len (line_bytes t) ≡ 0 = rw same (end_unfed (b ∷ body) (clear_at (b ∷ body) (length (b ∷ body) - 1) (omega arith) clear)) in
-      rw none (ap lines_in same ∙ ap (map cut) (whole_last b body clear) ∙ ap (λ x. cut x ∷ []) (sym same) ∙ ap (λ m. m ∷ []) (cut_line t zero_end))
+        let t : TextLine = record { body = b ∷ body; ending = [] } in
+        let same : line_bytes t ≡ b ∷ body = append-nil (b ∷ body) in
+        let zero_end : end_len (line_bytes t) ≡ 0 = rw same (end_unfed (b ∷ body) (clear_at (b ∷ body) (length (b ∷ body) - 1) (omega arith) clear)) in
+        rw none (ap lines_in same ∙ ap (map cut) (whole_last b body clear) ∙ ap (λ x. cut x ∷ []) (sym same) ∙ ap (λ m. m ∷ []) (cut_line t zero_end))
 
 -- lines that are joined and split again are the same lines
 pub lines_again : (ls : List TextLine) → AreLines ls → lines_in (joined ls) ≡ ls
@@ -264,3 +267,42 @@ lines_again [] is = refl
 lines_again (l ∷ []) (inl is) = ended_line l [] is
 lines_again (l ∷ []) (inr is) = ap lines_in (append-nil (line_bytes l)) ∙ unended_line l is
 lines_again (l ∷ (m ∷ ms)) is = ended_line l (joined (m ∷ ms)) is.0 ∙ ap (λ t. l ∷ t) (lines_again (m ∷ ms) is.1)
+
+-- ---- two texts, the first of which ends with a line feed
+
+whole_append : (xs ys : List ℕ) → 0 < length xs → get_or xs (length xs - 1) 0 ≡ 10 → whole_lines (xs ++ ys) ≡ whole_lines xs ++ whole_lines ys
+whole_append [] ys some feed = absurd (omega arith)
+whole_append (b ∷ []) ys some feed = rw (eq-eqb b 10 feed) refl
+whole_append (b ∷ (c ∷ xs)) ys some feed =
+    let n : length (b ∷ (c ∷ xs)) - 1 ≡ suc (length (c ∷ xs) - 1) = omega arith in
+    let more : whole_lines ((c ∷ xs) ++ ys) ≡ whole_lines (c ∷ xs) ++ whole_lines ys = whole_append (c ∷ xs) ys (omega arith) (rw n at feed) in
+    elim (two (nat_eq b 10)) [
+      | inl e ↦ rw e (ap (λ ls. (b ∷ []) ∷ ls) more)
+      | inr e ↦ rw e (ap (onto_first b) more ∙ onto-append b c xs (whole_lines ys))
+    ]
+  where
+    onto_some : (b : ℕ) (ls ms : List (List ℕ)) → 0 < length ls → onto_first b (ls ++ ms) ≡ onto_first b ls ++ ms
+    onto_some b [] ms some = absurd (omega arith)
+    onto_some b (l ∷ ls) ms some = refl
+
+    some_line : (c : ℕ) (xs : List ℕ) → 0 < length (whole_lines (c ∷ xs))
+    some_line c xs = elim (two (nat_eq c 10)) [ inl e ↦ rw e (omega arith) | inr e ↦ rw e (some_onto c (whole_lines xs)) ]
+      where
+        some_onto : (c : ℕ) (ls : List (List ℕ)) → 0 < length (onto_first c ls)
+        some_onto c [] = omega arith
+        some_onto c (l ∷ ls) = omega arith
+
+    onto-append : (b c : ℕ) (xs : List ℕ) (ms : List (List ℕ)) → onto_first b (whole_lines (c ∷ xs) ++ ms) ≡ onto_first b (whole_lines (c ∷ xs)) ++ ms
+    onto-append b c xs ms = onto_some b (whole_lines (c ∷ xs)) ms (some_line c xs)
+
+pub lines-append : (xs ys : List ℕ) → 0 < length xs → get_or xs (length xs - 1) 0 ≡ 10 → lines_in (xs ++ ys) ≡ lines_in xs ++ lines_in ys
+lines-append xs ys some feed = ap (map cut) (whole_append xs ys some feed) ∙ map-append cut (whole_lines xs) (whole_lines ys)
+
+-- a line of a text is the only line of its own bytes
+pub one_line : (l : TextLine) (ls : List TextLine) → AreLines (l ∷ ls) → lines_in (line_bytes l) ≡ l ∷ []
+one_line l [] are = ap lines_in (sym (append-nil (line_bytes l))) ∙ lines_again (l ∷ []) are
+one_line l (m ∷ ms) are = ap lines_in (sym (append-nil (line_bytes l))) ∙ lines_again (l ∷ []) (inl are.0)
+
+pub later_lines : (l : TextLine) (ls : List TextLine) → AreLines (l ∷ ls) → AreLines ls
+later_lines l [] are = tt
+later_lines l (m ∷ ms) are = are.1

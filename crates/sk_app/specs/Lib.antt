@@ -1,0 +1,11 @@
+pub mod Command
+pub mod Chain
+pub mod Rows
+pub mod FirstForm
+pub mod ReportText
+pub mod DistanceTest
+pub mod Answer
+pub mod Ends
+pub mod Lent
+pub mod Printed
+pub mod Examples

@@ -1,0 +1,22 @@
+//! The top call: words and a folder in, printed pieces and a status out.
+#![tactic(auto)]
+
+mod certify;
+mod command;
+mod fault;
+mod form;
+mod pieces;
+mod prepared;
+mod report;
+mod rows;
+mod sketch;
+mod status;
+#[cfg(test)]
+mod tests;
+mod top;
+
+pub use fault::StageFault;
+pub use top::run;
+
+/// The scale of all numbers: a unit is 2^-36 millimetre.
+pub(crate) const SCALE: u32 = 36;

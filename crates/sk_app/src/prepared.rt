@@ -1,0 +1,161 @@
+// What a command puts, made before the first put.
+ghost use Rattle.std.specs.Prelude.{◌≡◌, ◌≤◌, ◌++◌, IfOk, OnOk, Ok, Err};
+ghost use Rattle.sk_files.specs.Outcome.{Rose};
+ghost use Rattle.sk_app.specs.Lent.{IsAnswer, fault_of, Prepares, words_of};
+ghost use Rattle.sk_app.specs.Answer.{report_of, refusal_text as refusal_bytes, fault_text as fault_bytes, fault_status};
+
+use crate::certify::certify;
+use crate::command::read_command;
+use crate::fault::{Refusal, StageFault, Stop};
+use crate::form::read_sketch;
+use crate::report::{Certified, group_text, last_line, push_count};
+use crate::status::Status;
+use sk_files::{Folder, OuterFault};
+use std::alloc::{AllocError, Global};
+
+/// Why a command isn't carried out.
+#[derive(Clone, Copy)]
+pub(crate) enum Fault<'w> {
+    /// The words are no command.
+    Words,
+    /// The model is refused.
+    Model(Refusal),
+    /// There is no model with this name.
+    Absent(&'w str),
+    /// The folder failed at the read of this name.
+    Unread(&'w str),
+}
+
+impl Fault<'_> {
+    fn status(&self) -> Status
+        ensures { result ≡ fault_status (fault_of self.now) }
+    {
+        match self {
+            Fault::Words => Status::Words,
+            Fault::Model(_) => Status::Model,
+            Fault::Absent(_) => Status::Absent,
+            Fault::Unread(_) => Status::Unread,
+        }
+    }
+}
+
+/// All pieces in order, and the status after the last.
+#[derive(Drop)]
+pub(crate) struct Prepared {
+    pub(crate) pieces: Vec<Vec<u8>>,
+    pub(crate) status: Status,
+}
+
+// Puts the text of a refusal behind the text.
+#[tactic(auto, unfolding(crate::specs::Answer::refusal_text))]
+fn push_refusal(out: &mut Vec<u8>, refusal: Refusal) -> Result<(), AllocError>
+    ensures { OnOk result (out.new.items ≡ out.old.items ++ refusal_bytes refusal) }
+{
+    match refusal {
+        Refusal::TooLarge => out.extend_from_slice(b"too large")?,
+        Refusal::BadHeader => out.extend_from_slice(b"bad header")?,
+        Refusal::Stage(StageFault::NotYet(line)) => {
+            out.extend_from_slice(b"not yet ")?;
+            push_count(out, line.into())?;
+        }
+    }
+    Ok(())
+}
+
+// Puts the text of a fault behind the text.
+fn push_fault(out: &mut Vec<u8>, fault: &Fault<'_>) -> Result<(), AllocError>
+    ensures { OnOk result (out.new.items ≡ out.old.items ++ fault_bytes (fault_of fault.now)) }
+{
+    match fault {
+        Fault::Words => out.extend_from_slice(b"words")?,
+        Fault::Model(refusal) => {
+            out.extend_from_slice(b"model ")?;
+            push_refusal(out, *refusal)?;
+        }
+        Fault::Absent(name) => {
+            out.extend_from_slice(b"absent ")?;
+            out.extend_from_slice(name.as_bytes())?;
+        }
+        Fault::Unread(name) => {
+            out.extend_from_slice(b"read ")?;
+            out.extend_from_slice(name.as_bytes())?;
+        }
+    }
+    Ok(())
+}
+
+// The report of a text.
+#[tactic(auto, unfolding(crate::specs::Answer::report_of))]
+fn report(alloc: Global, text: &[u8]) -> Result<Certified, Stop>
+    ensures { IsAnswer result (report_of text.now) }
+{
+    let sketch = read_sketch(alloc, text)?;
+    certify(alloc, &sketch)
+}
+
+impl Prepared {
+    ghost use Rattle.sk_app.specs.Lent.{shown};
+    ghost use Rattle.sk_app.specs.Answer.{answered, BadModel};
+    ghost use Rattle.sk_app.specs.Chain.{with_err};
+
+    // One fault line.
+    fn refused(alloc: Global, fault: &Fault<'_>) -> Result<Prepared, AllocError>
+        ensures { IfOk result (λ p. shown p ≡ answered (Err (fault_of fault.now))) }
+    {
+        let mut line = Vec::from_slice(alloc, b"fault ")?;
+        push_fault(&mut line, fault)?;
+        line.extend_from_slice(b"\n")?;
+        let mut pieces = Vec::new(alloc);
+        pieces.push(line)?;
+        Ok(Prepared {
+            pieces,
+            status: fault.status(),
+        })
+    }
+
+    // The block of the one group, and the last line.
+    fn certified(alloc: Global, certified: &Certified) -> Result<Prepared, AllocError>
+        ensures { IfOk result (λ p. shown p ≡ answered (Ok certified.now)) }
+    {
+        let mut pieces = Vec::new(alloc);
+        pieces.push(group_text(alloc, certified)?)?;
+        pieces.push(last_line(alloc, 1, 1)?)?;
+        Ok(Prepared {
+            pieces,
+            status: Status::Done,
+        })
+    }
+
+    // What is put for a text.
+    fn of_text(alloc: Global, text: &[u8]) -> Result<Prepared, AllocError>
+        ensures { IfOk result (λ p. shown p ≡ answered (with_err BadModel (report_of text.now))) }
+    {
+        match report(alloc, text) {
+            Ok(certified) => Prepared::certified(alloc, &certified),
+            Err(Stop::Refused(refusal)) => Prepared::refused(alloc, &Fault::Model(refusal)),
+            Err(Stop::NoMemory) => Err(AllocError),
+        }
+    }
+
+    /// What is put for the words, after one read of the model that they name.
+    pub(crate) fn of_words<F: Folder>(
+        alloc: Global,
+        words: &[&str],
+        folder: &mut F,
+    ) -> Result<Prepared, AllocError>
+        ensures answer { IfOk result (λ p. Prepares (words_of words.now) (F.files folder.old) (Rose (F.faults folder.old) (F.faults folder.new)) (shown p)) }
+        ensures files { F.files folder.new ≡ F.files folder.old }
+        ensures later { F.faults folder.old ≤ F.faults folder.new }
+    {
+        let Some(command) = read_command(words) else {
+            return Prepared::refused(alloc, &Fault::Words);
+        };
+        let model = command.model();
+        match folder.read(alloc, model) {
+            Ok(Some(text)) => Prepared::of_text(alloc, &text),
+            Ok(None) => Prepared::refused(alloc, &Fault::Absent(model)),
+            Err(OuterFault::Failed) => Prepared::refused(alloc, &Fault::Unread(model)),
+            Err(OuterFault::NoMemory) => Err(AllocError),
+        }
+    }
+}

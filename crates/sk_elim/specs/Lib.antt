@@ -1,0 +1,4 @@
+pub mod Elimination
+pub mod Examples
+pub mod EliminationLaws
+pub mod PivotLaws

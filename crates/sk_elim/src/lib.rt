@@ -1,0 +1,4 @@
+//! Elimination of a system's matrix of slopes.
+//!
+//! The rule stands in `specs/`, with worked rows.
+#![tactic(auto)]

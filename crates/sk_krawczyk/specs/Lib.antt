@@ -1,0 +1,14 @@
+pub mod SoundBox
+pub mod Box
+pub mod RadiusLaws
+pub mod IntervalTest
+pub mod Distance
+pub mod OneRow
+pub mod Examples
+pub mod BoxLaws
+pub mod SquareLaws
+pub mod SoundLaws
+pub mod PassedLaws
+pub mod CertifiedBox
+pub mod CertifiedLaws
+pub mod DistanceSound
