@@ -1,0 +1,61 @@
+use Rattle.std.proofs.Common.{◌≡◌, ◌<◌, length, get_or, ap, sym, ◌∙◌, subst}
+use Rattle.std.proofs.lemmas.Result.{on_ok_weaker, on_err_weaker}
+use Rattle.sk_records.specs.Rows.{with_map}
+use Rattle.sk_records.specs.Given.{given_list}
+use Rattle.sk_records.specs.declared.kinds.Kind.{Kind}
+use Rattle.sk_records.specs.Blocks.{on_record}
+use Rattle.sk_records.specs.Written.{IsText}
+use Rattle.sk_records.specs.Places.{places_from}
+use Rattle.sk_records.specs.BookHeld.{book_blocks}
+use Rattle.sk_records.proofs.TextKept.{text_list}
+use Rattle.sk_records.proofs.BookChanged.{in_places, book_changed, book_stays, book_unchanged, book_is_kept, either_way}
+use Rattle.sk_records.proofs.book.Book.set_map.Goals as goal
+
+pub place_of-at-requires-clause-exists : goal.place_of-at-requires-clause-exists
+place_of-at-requires-clause-exists c =
+    rw c.deref-2.ensures.value (in_places c.self.inside.text.items c.self.inside.header c.self.inside.items.items c.args.rec.kind c.args.rec.place (rw (← c.self.view_is) at c.requires.exists))
+
+pub invariant_of-self : goal.invariant_of-self
+invariant_of-self c =
+    let text = c.self.inside.text.items in
+    let header = c.self.inside.header in
+    let items = c.self.inside.items.items in
+    let k = c.args.rec.kind in
+    let i = c.args.rec.place in
+    let lt : i < length (places_from k 0 items) = in_places text header items k i (rw (← c.self.view_is) at c.requires.exists) in
+    let place : c.place_of-at.result ≡ get_or (places_from k 0 items) i 0 = rw c.deref-2.ensures.value at c.place_of-at.ensures.place in
+    let below : c.place_of-at.result < length items = rw c.deref-2.ensures.value at c.place_of-at.ensures.below in
+    either_way c.set_list_at.result c.set_list_at.ensures.ok c.set_list_at.ensures.err
+    (λ e. book_stays text c.set_list_at.new.text.items header items c.set_list_at.new.items.items c.self.inside.places.items k i c.place_of-at.result (with_map (given_list c.args.lines.now)) c.self.invariant lt place below e
+    (subst (λ (j : Kind). IsText (on_record j i (with_map (given_list c.args.lines.now)) (book_blocks text header items))) (sym c.requires.group) (text_list c.args.lines.now i (book_blocks text header items) c.requires.list c.requires.ended c.self.invariant.is_text)))
+    (λ e. book_is_kept text c.set_list_at.new.text.items header items c.set_list_at.new.items.items c.self.inside.places.items k i c.place_of-at.result c.self.invariant lt place below e)
+
+pub returns-clause-ok : goal.returns-clause-ok
+returns-clause-ok c =
+    let text = c.self.inside.text.items in
+    let header = c.self.inside.header in
+    let items = c.self.inside.items.items in
+    let k = c.args.rec.kind in
+    let i = c.args.rec.place in
+    let lt : i < length (places_from k 0 items) = in_places text header items k i (rw (← c.self.view_is) at c.requires.exists) in
+    let place : c.place_of-at.result ≡ get_or (places_from k 0 items) i 0 = rw c.deref-2.ensures.value at c.place_of-at.ensures.place in
+    let below : c.place_of-at.result < length items = rw c.deref-2.ensures.value at c.place_of-at.ensures.below in
+    on_ok_weaker c.set_list_at.result
+    (λ e. book_changed text c.set_list_at.new.text.items header items c.set_list_at.new.items.items c.self.inside.places.items k i c.place_of-at.result (with_map (given_list c.args.lines.now)) c.self.invariant lt place below e
+    ∙ ap (on_record k i (with_map (given_list c.args.lines.now))) c.self.view_is
+    ∙ ap (λ (j : Kind). on_record j i (with_map (given_list c.args.lines.now)) c.args.self.now) c.requires.group)
+    c.set_list_at.ensures.ok
+
+pub returns-clause-err : goal.returns-clause-err
+returns-clause-err c =
+    let text = c.self.inside.text.items in
+    let header = c.self.inside.header in
+    let items = c.self.inside.items.items in
+    let k = c.args.rec.kind in
+    let i = c.args.rec.place in
+    let lt : i < length (places_from k 0 items) = in_places text header items k i (rw (← c.self.view_is) at c.requires.exists) in
+    let place : c.place_of-at.result ≡ get_or (places_from k 0 items) i 0 = rw c.deref-2.ensures.value at c.place_of-at.ensures.place in
+    let below : c.place_of-at.result < length items = rw c.deref-2.ensures.value at c.place_of-at.ensures.below in
+    on_err_weaker c.set_list_at.result
+    (λ e. book_unchanged text c.set_list_at.new.text.items header items c.set_list_at.new.items.items c.self.inside.places.items k i c.place_of-at.result c.self.invariant lt place below e ∙ c.self.view_is)
+    c.set_list_at.ensures.err

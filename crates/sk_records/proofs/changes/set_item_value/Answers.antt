@@ -1,0 +1,26 @@
+use Rattle.std.proofs.Common.{refl}
+use Rattle.std.proofs.lemmas.Result.{on_ok_weaker, on_err_weaker}
+use Rattle.sk_records.specs.Rows.{with_value}
+use Rattle.sk_records.specs.Held.{RecordWithin}
+use Rattle.sk_records.proofs.Growth.{grown_none}
+use Rattle.sk_records.proofs.RowsSet.{no_record, record_kept, record_changed}
+use Rattle.sk_records.proofs.changes.set_item_value.Goals as goal
+
+pub returns-in-Held-clause-ok : goal.returns-in-Held-clause-ok
+returns-in-Held-clause-ok c =
+    let is : RecordWithin c.args.text.now.items c.in-Held.record = rw c.in-Held.is at c.requires.within in
+    rw c.in-Held.is (on_ok_weaker c.set_row_value.result (λ e. record_changed c.args.text.now.items c.set_row_value.new.text.items c.in-Held.record c.set_row_value.new.rows.items (with_value c.args.key.now c.args.value.now) c.set_row_value.ensures.grown is e) c.set_row_value.ensures.ok)
+
+pub returns-in-Held-clause-err : goal.returns-in-Held-clause-err
+returns-in-Held-clause-err c =
+    let is : RecordWithin c.args.text.now.items c.in-Held.record = rw c.in-Held.is at c.requires.within in
+    rw c.in-Held.is (on_err_weaker c.set_row_value.result (λ e. record_kept c.args.text.now.items c.set_row_value.new.text.items c.in-Held.record c.set_row_value.new.rows.items c.set_row_value.ensures.grown is e) c.set_row_value.ensures.err)
+
+pub returns-in_default : goal.returns-in_default
+returns-in_default c = record {
+  ok = no_record c.args.text.now.items (with_value c.args.key.now c.args.value.now) c.args.item.now c.in_default.not-Held;
+  err = tt;
+  within = c.requires.within;
+  grown = grown_none c.args.text.now.items;
+  kind = λ k. refl;
+}

@@ -1,0 +1,78 @@
+// Records that callers give.
+ghost use Rattle.std.specs.Prelude.{◌≡◌, List, ℕ, map, IfOk};
+ghost use Rattle.std.specs.List.{All};
+ghost use Rattle.sk_records.specs.Held.{ItemWithin};
+ghost use Rattle.sk_records.specs.Grown.{IsGrown};
+ghost use Rattle.sk_records.specs.GivenHeld.{bare_held, IsBareOf, AreBareOf, IsGivenAs, IsRecordOf};
+ghost use Rattle.sk_records.specs.Given.{IsOneRecord};
+
+use crate::items::Item;
+use crate::kinds::Kind;
+use crate::reading::read_lines;
+use crate::rows::Row;
+use sk_text::lines;
+use std::alloc::AllocError;
+
+// The most bytes that a call may be given: past it no line would have a number.
+const MOST: usize = 1 << 31;
+
+fn forget_rows(rows: &mut Vec<Row>)
+    ensures { rows.new.items ≡ map bare_held rows.old.items }
+{
+    for i in 0..rows.len() {
+        rows[i].number = None;
+    }
+}
+
+fn forget_item(item: &mut Item)
+    ensures { IsBareOf item.old item.new }
+{
+    match item {
+        Item::Held(record) => forget_rows(&mut record.rows),
+        _ => {}
+    }
+}
+
+fn forget_items(items: &mut Vec<Item>)
+    ensures { AreBareOf items.old.items items.new.items }
+{
+    for i in 0..items.len() {
+        forget_item(&mut items[i]);
+    }
+}
+
+/// Puts the lines of whole records behind the text, and gives them as items whose lines have no numbers.
+pub(crate) fn push_given(text: &mut Vec<u8>, given: &[u8]) -> Result<Vec<Item>, AllocError>
+    ensures items { IfOk result (λ items. IsGivenAs text.new.items given.now items.items) }
+    ensures within { IfOk result (λ items. All (ItemWithin text.new.items) items.items) }
+    ensures grown { IsGrown text.old.items text.new.items }
+{
+    if given.len() > MOST {
+        return Err(AllocError);
+    }
+    let base = text.len();
+    text.extend_from_slice(given)?;
+    match read_lines(*text.allocator(), text, base, lines(given), 1) {
+        Ok(items) => {
+            let mut items = items;
+            forget_items(&mut items);
+            Ok(items)
+        }
+        // Given lines have no fault, so this is want of memory.
+        Err(_) => Err(AllocError),
+    }
+}
+
+/// Puts the lines of one whole record behind the text, and gives it as an item.
+pub(crate) fn push_record(text: &mut Vec<u8>, kind: Kind, given: &[u8]) -> Result<Item, AllocError>
+    requires { IsOneRecord kind given.now }
+    ensures item { IfOk result (IsRecordOf text.new.items kind given.now) }
+    ensures grown { IsGrown text.old.items text.new.items }
+{
+    let mut items = push_given(text, given)?;
+    match items.pop() {
+        Some(Item::Held(record)) => Ok(Item::Held(record)),
+        // The lines of one record are read as that record alone.
+        _ => Err(AllocError),
+    }
+}

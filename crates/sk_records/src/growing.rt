@@ -1,0 +1,58 @@
+// Lines that calls put behind the held text.
+ghost use Rattle.std.specs.Prelude.{◌≡◌, ◌≤◌, ◌++◌, ◌∷◌, [], List, length, IfOk, OnOk, vec_len};
+ghost use Rattle.sk_records.specs.Rows.{value_body};
+ghost use Rattle.sk_records.specs.Held.{bytes_at, line_at, IsWithin};
+ghost use Rattle.sk_records.specs.Grown.{IsGrown};
+
+use crate::rows::Span;
+use std::alloc::AllocError;
+
+// Puts `key=value` behind the text.
+fn push_body(text: &mut Vec<u8>, key: &[u8], value: &[u8]) -> Result<(), AllocError>
+    ensures ok { OnOk result (text.new.items ≡ text.old.items ++ value_body key.now value.now) }
+    ensures grown { IsGrown text.old.items text.new.items }
+{
+    text.extend_from_slice(key)?;
+    text.push(b'=')?;
+    text.extend_from_slice(value)
+}
+
+/// Puts the line `key=value` behind the text, with the end of a line that stands in it.
+pub(crate) fn push_changed(
+    text: &mut Vec<u8>,
+    key: &[u8],
+    value: &[u8],
+    old: Span,
+) -> Result<Span, AllocError>
+    requires within { IsWithin text.old.items old }
+    ensures line { IfOk result (λ s. line_at text.new.items s ≡ record { body = value_body key.now value.now; ending = bytes_at text.old.items old.body_end old.end }) }
+    ensures within { IfOk result (IsWithin text.new.items) }
+    ensures grown { IsGrown text.old.items text.new.items }
+{
+    let start = text.len();
+    push_body(text, key, value)?;
+    let body_end = text.len();
+    text.extend_from_within(old.body_end..old.end)?;
+    Ok(Span {
+        start,
+        body_end,
+        end: text.len(),
+    })
+}
+
+/// Puts the line `key=value` behind the text, ended by a line feed.
+pub(crate) fn push_added(text: &mut Vec<u8>, key: &[u8], value: &[u8]) -> Result<Span, AllocError>
+    ensures line { IfOk result (λ s. line_at text.new.items s ≡ record { body = value_body key.now value.now; ending = 10 ∷ [] }) }
+    ensures within { IfOk result (IsWithin text.new.items) }
+    ensures grown { IsGrown text.old.items text.new.items }
+{
+    let start = text.len();
+    push_body(text, key, value)?;
+    let body_end = text.len();
+    text.push(b'\n')?;
+    Ok(Span {
+        start,
+        body_end,
+        end: text.len(),
+    })
+}

@@ -1,0 +1,79 @@
+// Remap lists among the lines of a record.
+ghost use Rattle.std.specs.Prelude.{◌≡◌, ◌≤◌, ◌++◌, List, ℕ, length, map, IfOk, OnOk, OnErr, vec_len};
+ghost use Rattle.std.specs.List.{All};
+ghost use Rattle.sk_records.specs.Changes.{is_plain_row, with_list};
+ghost use Rattle.sk_records.specs.Given.{given_list, list_role};
+ghost use Rattle.sk_records.specs.Held.{rows_at, RowWithin};
+ghost use Rattle.sk_records.specs.Grown.{IsGrown};
+
+use crate::classes::{is_opening, is_shut};
+use crate::rows::{Role, Row, Span};
+use sk_text::lines;
+use std::alloc::{AllocError, Global};
+
+// What a line of a whole list is.
+fn list_role(body: &[u8]) -> Role
+    ensures { result ≡ list_role body.now }
+{
+    if is_opening(body) || is_shut(body) {
+        Role::Brace
+    } else {
+        Role::Entry
+    }
+}
+
+/// Puts the lines of a whole list behind the text, and gives them as lines of a record.
+pub(crate) fn push_list(text: &mut Vec<u8>, given: &[u8]) -> Result<Vec<Row>, AllocError>
+    ensures rows { IfOk result (λ rows. rows_at text.new.items rows.items ≡ given_list given.now) }
+    ensures within { IfOk result (λ rows. All (RowWithin text.new.items) rows.items) }
+    ensures grown { IsGrown text.old.items text.new.items }
+{
+    let base = text.len();
+    text.extend_from_slice(given)?;
+    let mut rows = Vec::new(*text.allocator());
+    for line in lines(given) {
+        let start = base + line.at;
+        let body_end = start + line.body.len();
+        let end = body_end + line.end.len();
+        rows.push(Row {
+            span: Span {
+                start,
+                body_end,
+                end,
+            },
+            role: list_role(line.body),
+            number: None,
+        })?;
+    }
+    Ok(rows)
+}
+
+// Whether a line is of no remap list.
+fn is_plain(row: Row) -> bool
+    ensures { result ≡ is_plain_row row }
+{
+    match row.role {
+        Role::Plain => true,
+        Role::Brace | Role::Entry => false,
+    }
+}
+
+/// The lines of a record with a new list in the place of the first, and no further one.
+pub(crate) fn with_list(alloc: Global, rows: &[Row], new: &[Row]) -> Result<Vec<Row>, AllocError>
+    ensures { IfOk result (λ v. v.items ≡ with_list new.now rows.now) }
+{
+    let mut out = Vec::new(alloc);
+    let mut put = false;
+    for row in rows {
+        if is_plain(*row) {
+            out.push(*row)?;
+        } else if !put {
+            out.extend_from_slice(new)?;
+            put = true;
+        }
+    }
+    if !put {
+        out.extend_from_slice(new)?;
+    }
+    Ok(out)
+}

@@ -1,0 +1,250 @@
+// Books of small texts: what is read, looked up, changed and written.
+ghost use Rattle.std.specs.Prelude.{◌≡◌, OnOk};
+
+use crate::{Book, Kind, ReadFault, RecId};
+use std::alloc::{AllocError, Global};
+use std::test::Fail;
+
+/// A group, a parameter, a request and a constraint, line by line.
+const MODEL: [&[u8]; 22] = [
+    b"\xB1\xB2\xB3SolveSpaceREVa",
+    b"",
+    b"",
+    b"Group.h.v=00000001",
+    b"Group.type=5000",
+    b"Group.remap={",
+    b"    1 00040000 0",
+    b"}",
+    b"AddGroup",
+    b"",
+    b"Param.h.v.=00040010",
+    b"Param.val=3.5",
+    b"AddParam",
+    b"",
+    b"Request.h.v=00000005",
+    b"Request.type=101",
+    b"AddRequest",
+    b"",
+    b"Constraint.h.v=00000001",
+    b"Constraint.valA=5.0",
+    b"Constraint.valA=5.5",
+    b"AddConstraint",
+];
+
+// The lines up to this one, each with this end, and another line in the place of one of them, counted from 1.
+fn text_of(
+    alloc: Global,
+    count: usize,
+    end: &[u8],
+    number: usize,
+    changed: &[u8],
+) -> Result<Vec<u8>, AllocError> {
+    let mut text = Vec::new(alloc);
+    for (place, line) in MODEL.iter().take(count).enumerate() {
+        if place.wrapping_add(1) == number {
+            text.extend_from_slice(changed)?;
+        } else {
+            text.extend_from_slice(line)?;
+        }
+        text.extend_from_slice(end)?;
+    }
+    Ok(text)
+}
+
+fn whole(alloc: Global) -> Result<Vec<u8>, AllocError> {
+    text_of(alloc, 22, b"\n", 0, b"")
+}
+
+// Why a text isn't read; None where it is, and then it is written as it was read.
+fn fault_of(alloc: Global, text: &[u8]) -> Result<Option<ReadFault>, AllocError> {
+    match Book::read(alloc, Vec::from_slice(alloc, text)?) {
+        Ok(book) => {
+            let mut out = Vec::new(alloc);
+            book.write(alloc, &mut out)?;
+            if out.as_slice() == text {
+                Ok(None)
+            } else {
+                Ok(Some(ReadFault::NoMemory))
+            }
+        }
+        Err(fault) => Ok(Some(fault)),
+    }
+}
+
+#[test]
+fn a_text_is_written_as_it_was_read_or_has_its_first_fault(rt: HostRuntime) -> Result<(), Fail> {
+    let alloc = rt.alloc();
+    let changed: [(&str, usize, &[u8], Option<ReadFault>); 9] = [
+        ("no change", 0, b"", None),
+        (
+            "another header",
+            1,
+            b"SolveSpaceREVa",
+            Some(ReadFault::BadHeader),
+        ),
+        (
+            "a value of another kind",
+            5,
+            b"Param.val=1",
+            Some(ReadFault::BadLine(5)),
+        ),
+        (
+            "a record that isn't closed",
+            14,
+            b"Param.val=1",
+            Some(ReadFault::BadLine(15)),
+        ),
+        (
+            "an unknown line",
+            14,
+            b"Sketch",
+            Some(ReadFault::BadLine(14)),
+        ),
+        (
+            "an entry with no blank",
+            7,
+            b"1 00040000 0",
+            Some(ReadFault::BadLine(7)),
+        ),
+        ("an empty entry", 7, b"", Some(ReadFault::BadLine(7))),
+        (
+            "a list that isn't shut",
+            8,
+            b"    2 00050000 0",
+            Some(ReadFault::BadLine(9)),
+        ),
+        ("a stored surface", 14, b"Surface 00000001", None),
+    ];
+    for (name, number, line, want) in changed {
+        let text = text_of(alloc, 22, b"\n", number, line)?;
+        assert!(rt; fault_of(alloc, &text)? == want, "{name}");
+        let text = text_of(alloc, 22, b"\r\n", number, line)?;
+        assert!(rt;
+            fault_of(alloc, &text)? == want,
+            "{name}, with carriage returns"
+        );
+    }
+    Ok(())
+}
+
+#[test]
+fn a_text_that_is_cut_has_the_fault_of_what_is_open(rt: HostRuntime) -> Result<(), Fail> {
+    let alloc = rt.alloc();
+    for count in 0..MODEL.len() {
+        let want = match count {
+            0 => Some(ReadFault::BadHeader),
+            4 | 5 | 8 => Some(ReadFault::OpenRecord(4)),
+            6 | 7 => Some(ReadFault::OpenMap(6)),
+            11 | 12 => Some(ReadFault::OpenRecord(11)),
+            15 | 16 => Some(ReadFault::OpenRecord(15)),
+            19 | 20 | 21 => Some(ReadFault::OpenRecord(19)),
+            _ => None,
+        };
+        let text = text_of(alloc, count, b"\n", 0, b"")?;
+        assert!(rt; fault_of(alloc, &text)? == want, "after line {count}");
+        let without_end = &text[..text.len().saturating_sub(1)];
+        assert!(rt; fault_of(alloc, without_end)? == want, "in line {count}");
+    }
+    Ok(())
+}
+
+#[test]
+fn a_text_past_the_limit_is_too_large(rt: HostRuntime) -> Result<(), Fail> {
+    let alloc = rt.alloc();
+    let mut text = whole(alloc)?;
+    text.resize((1 << 26) + 1, b'\n')?;
+    assert!(rt; matches!(Book::read(alloc, text), Err(ReadFault::TooLarge)));
+    Ok(())
+}
+
+// The book of the whole text; its reading is tried above.
+fn model(alloc: Global) -> Result<Book, AllocError> {
+    match Book::read(alloc, whole(alloc)?) {
+        Ok(book) => Ok(book),
+        Err(_) => Err(AllocError),
+    }
+}
+
+// The bytes of a book.
+fn bytes(alloc: Global, book: &Book) -> Result<Vec<u8>, AllocError> {
+    let mut out = Vec::new(alloc);
+    book.write(alloc, &mut out)?;
+    Ok(out)
+}
+
+// Sets the distance of the first constraint, where there is one.
+fn set_distance(book: &mut Book) -> Result<(), AllocError> {
+    let constraint = RecId {
+        kind: Kind::Constraint,
+        place: 0,
+    };
+    if book.count(Kind::Constraint) > 0 {
+        book.set_value(constraint, b"Constraint.valA", b"6")?;
+    }
+    Ok(())
+}
+
+// Sets the remap list of the first group, where there is one.
+fn set_remap(book: &mut Book) -> Result<(), AllocError> {
+    let group = RecId {
+        kind: Kind::Group,
+        place: 0,
+    };
+    if book.count(Kind::Group) > 0 {
+        book.set_map(group, b"Group.remap={\n    9 00090000 1\n}\n")?;
+    }
+    Ok(())
+}
+
+#[test]
+fn values_are_those_of_the_last_line(rt: HostRuntime) -> Result<(), Fail> {
+    let alloc = rt.alloc();
+    let book = model(alloc)?;
+    let constraint = RecId {
+        kind: Kind::Constraint,
+        place: 0,
+    };
+    assert_eq!(rt; book.count(Kind::Constraint), 1);
+    assert!(rt; book.value(constraint, b"Constraint.valA") == Some(b"5.5".as_slice()));
+    assert!(rt; book.line_of(constraint, b"Constraint.valA") == Some(21));
+    assert!(rt; book.value(constraint, b"Constraint.valB").is_none());
+    Ok(())
+}
+
+#[test]
+fn a_change_changes_its_own_lines(rt: HostRuntime) -> Result<(), Fail> {
+    let alloc = rt.alloc();
+    let mut book = model(alloc)?;
+    set_distance(&mut book)?;
+    let want = text_of(alloc, 22, b"\n", 21, b"Constraint.valA=6")?;
+    assert!(rt; bytes(alloc, &book)? == want, "a value");
+    let copied = book.copy(alloc)?;
+    set_remap(&mut book)?;
+    assert!(rt; bytes(alloc, &copied)? == want, "a copy");
+    assert_eq!(rt;
+        bytes(alloc, &book)?.len(),
+        want.len(),
+        "a list of one entry"
+    );
+    assert!(rt; bytes(alloc, &book)? != want, "a list");
+    Ok(())
+}
+
+#[test]
+fn a_record_goes_with_its_tail(rt: HostRuntime) -> Result<(), Fail> {
+    let alloc = rt.alloc();
+    let mut book = model(alloc)?;
+    let request = RecId {
+        kind: Kind::Request,
+        place: 0,
+    };
+    assert_eq!(rt; book.count(Kind::Request), 1);
+    book.drop_record(request);
+    let mut want = text_of(alloc, 14, b"\n", 0, b"")?;
+    for line in MODEL.iter().skip(18) {
+        want.extend_from_slice(line)?;
+        want.extend_from_slice(b"\n")?;
+    }
+    assert!(rt; bytes(alloc, &book)? == want);
+    Ok(())
+}
