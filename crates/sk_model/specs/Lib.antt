@@ -1,0 +1,12 @@
+pub mod Chain
+pub mod Keys
+pub mod Fields
+pub mod Lists
+pub mod Remap
+pub mod Groups
+pub mod Params
+pub mod Requests
+pub mod Constraints
+pub mod Typed
+pub mod Listings
+pub mod Models

@@ -1,0 +1,108 @@
+// The keys that are read.
+
+ghost use Rattle.std.specs.Prelude.{◌≡◌};
+ghost use Rattle.sk_model.specs.Keys.{key_bytes};
+
+/// A key of a record that is read, named for what stands under it.
+#[derive(Clone, Copy)]
+pub(crate) enum Key {
+    GroupHandle,
+    GroupType,
+    GroupOrder,
+    GroupActive,
+    GroupSource,
+    GroupValue,
+    GroupSubtype,
+    GroupSkipFirst,
+    GroupW,
+    GroupX,
+    GroupY,
+    GroupZ,
+    GroupOrigin,
+    GroupEntityB,
+    GroupEntityC,
+    GroupSwapUv,
+    GroupNegateU,
+    GroupNegateV,
+    GroupRelaxed,
+    GroupAllReference,
+    GroupScale,
+    GroupFile,
+    GroupRelativeFile,
+    ParamHandle,
+    ParamValue,
+    RequestHandle,
+    RequestType,
+    RequestWorkplane,
+    RequestGroup,
+    RequestConstruction,
+    ConstraintHandle,
+    ConstraintType,
+    ConstraintGroup,
+    ConstraintWorkplane,
+    ConstraintValue,
+    ConstraintPointA,
+    ConstraintPointB,
+    ConstraintEntityA,
+    ConstraintEntityB,
+    ConstraintEntityC,
+    ConstraintEntityD,
+    ConstraintOther,
+    ConstraintOther2,
+    ConstraintReference,
+}
+
+impl Key {
+    /// The key as it stands in a text.
+    #[tactic(auto, unfolding(crate::specs::Keys::key_bytes))]
+    pub(crate) fn bytes(self) -> &'static [u8]
+        ensures { result.now ≡ key_bytes self }
+    {
+        match self {
+            Key::GroupHandle => b"Group.h.v",
+            Key::GroupType => b"Group.type",
+            Key::GroupOrder => b"Group.order",
+            Key::GroupActive => b"Group.activeWrkpl.v",
+            Key::GroupSource => b"Group.opA.v",
+            Key::GroupValue => b"Group.valA",
+            Key::GroupSubtype => b"Group.subtype",
+            Key::GroupSkipFirst => b"Group.skipFirst",
+            Key::GroupW => b"Group.predef.q.w",
+            Key::GroupX => b"Group.predef.q.vx",
+            Key::GroupY => b"Group.predef.q.vy",
+            Key::GroupZ => b"Group.predef.q.vz",
+            Key::GroupOrigin => b"Group.predef.origin.v",
+            Key::GroupEntityB => b"Group.predef.entityB.v",
+            Key::GroupEntityC => b"Group.predef.entityC.v",
+            Key::GroupSwapUv => b"Group.predef.swapUV",
+            Key::GroupNegateU => b"Group.predef.negateU",
+            Key::GroupNegateV => b"Group.predef.negateV",
+            Key::GroupRelaxed => b"Group.relaxConstraints",
+            Key::GroupAllReference => b"Group.allDimsReference",
+            Key::GroupScale => b"Group.scale",
+            Key::GroupFile => b"Group.impFile",
+            Key::GroupRelativeFile => b"Group.impFileRel",
+            Key::ParamHandle => b"Param.h.v.",
+            Key::ParamValue => b"Param.val",
+            Key::RequestHandle => b"Request.h.v",
+            Key::RequestType => b"Request.type",
+            Key::RequestWorkplane => b"Request.workplane.v",
+            Key::RequestGroup => b"Request.group.v",
+            Key::RequestConstruction => b"Request.construction",
+            Key::ConstraintHandle => b"Constraint.h.v",
+            Key::ConstraintType => b"Constraint.type",
+            Key::ConstraintGroup => b"Constraint.group.v",
+            Key::ConstraintWorkplane => b"Constraint.workplane.v",
+            Key::ConstraintValue => b"Constraint.valA",
+            Key::ConstraintPointA => b"Constraint.ptA.v",
+            Key::ConstraintPointB => b"Constraint.ptB.v",
+            Key::ConstraintEntityA => b"Constraint.entityA.v",
+            Key::ConstraintEntityB => b"Constraint.entityB.v",
+            Key::ConstraintEntityC => b"Constraint.entityC.v",
+            Key::ConstraintEntityD => b"Constraint.entityD.v",
+            Key::ConstraintOther => b"Constraint.other",
+            Key::ConstraintOther2 => b"Constraint.other2",
+            Key::ConstraintReference => b"Constraint.reference",
+        }
+    }
+}

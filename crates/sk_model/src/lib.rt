@@ -1,0 +1,21 @@
+//! The typed model of a book: its groups, parameters, requests and constraints, or the first fault.
+#![tactic(auto)]
+
+mod constraints;
+mod faults;
+mod fields;
+mod group_keys;
+mod groups;
+mod keys;
+mod listed;
+mod model;
+mod params;
+mod remap;
+mod requests;
+mod whole;
+
+pub use faults::{ModelFault, Reason, What};
+pub use model::Model;
+
+#[cfg(test)]
+mod tests;
