@@ -6,3 +6,5 @@ pub mod SlopeIdentity
 pub mod EvaluationLaws
 pub mod SpanLaws
 pub mod System
+pub mod Renamed
+pub mod RenamedLaws

@@ -100,6 +100,10 @@ eliminate-one s row e j js h taken =
     let one = column-one s tops start v (best_column 4 [] (get_or start.rows 0 [])) refl refl g in
     finished-one s w e j js (subst OnePivot same one) k taken
 
+-- the row names four unknowns and no cosine
+pub distance_rows-in_range : (value : ℤ) → All (IsInRange 4 0) (distance_row value ∷ [])
+distance_rows-in_range value = All-cons (IsInRange 4 0) (distance_row value) [] ((((lit< tt, lit< tt), (lit< tt, lit< tt)), ((lit< tt, lit< tt), (lit< tt, lit< tt))), (tt, tt)) (All-nil (IsInRange 4 0))
+
 -- ---- the theorem
 
 module _ (s : ℕ) (a b d e value : ℤ) where
@@ -123,11 +127,8 @@ module _ (s : ℕ) (a b d e value : ℤ) where
         spread = c.spread;
       }
 
-  rows_in : All (IsInRange 4 0) (distance_row value ∷ [])
-  rows_in = All-cons (IsInRange 4 0) (distance_row value) [] ((((lit< tt, lit< tt), (lit< tt, lit< tt)), ((lit< tt, lit< tt), (lit< tt, lit< tt))), (tt, tt)) (All-nil (IsInRange 4 0))
-
   fit : IsFit (distance_system (a ∷ b ∷ []) (d ∷ e ∷ []) value)
-  fit = record { rows_in = rows_in; params_in = omega arith; columns_apart = tt; rows_apart = tt }
+  fit = record { rows_in = distance_rows-in_range value; params_in = omega arith; columns_apart = tt; rows_apart = tt }
 
   -- slopes of one row are a list of one
   slopes-one : (slopes : List (List Ends)) (o : Option (List Ends)) → cons_if o (Some []) ≡ Some slopes → (z : List Ends) × (slopes ≡ z ∷ [])

@@ -1,10 +1,13 @@
 -- Worked rows of the interval test, by computation, at the scale 36.
-use Rattle.std.specs.Prelude.{◌≡◌, refl, ◌*◌, ◌^◌, ◌-◌, [], ◌∷◌, pos, negsuc, false}
+use Rattle.std.specs.Prelude.{◌≡◌, map, refl, ◌*◌, ◌^◌, ◌-◌, [], ◌∷◌, pos, negsuc, false}
+use Rattle.std.specs.List.{range_with_len}
+use Rattle.sk_expr.specs.Poly.{number, unknown, plus, minus, times}
 use Rattle.sk_elim.specs.Elimination.{past_limit}
 use Rattle.sk_expr.specs.SpanValue.{span_value, span_slope}
 use Rattle.sk_krawczyk.specs.Box.{radius_exponent, newton_step}
 use Rattle.sk_krawczyk.specs.IntervalTest.{slopes_at, radius_test, elimination_test, interval_test, stops, passes, fails}
 use Rattle.sk_krawczyk.specs.Distance.{distance_system}
+use Rattle.sk_krawczyk.specs.PlacedBox.{placed_distance}
 
 -- (0, 0) and (3, 4), distance 5: the slope of p.v is -8 and grows to 8 + 2^-31 over the box of the radius 2^-32, so b is 9 and y is 1
 pub five-apart : interval_test 36 (distance_system (pos 0 ∷ pos 0 ∷ []) (pos (3 * 2 ^ 36) ∷ pos (4 * 2 ^ 36) ∷ []) (pos (5 * 2 ^ 36))) ≡ passes (1 ∷ []) (pos 0 ∷ []) (record {
@@ -47,3 +50,15 @@ too-far = refl
 pub too-far_over_box : interval_test 36 (distance_system (pos 0 ∷ pos 0 ∷ []) (pos (8192 * 2 ^ 36) ∷ pos 0 ∷ []) (pos (8192 * 2 ^ 36))) ≡ stops past_limit
 unfolding span_value span_slope radius_exponent newton_step slopes_at radius_test elimination_test interval_test
 too-far_over_box = refl
+
+-- the two points five apart at the unknowns 3, 4 and 1, 0 of five: the pivot's column 1 is the unknown 4, the row names the places, all others are held
+pub five-apart_placed : (
+    let xs = pos (4 * 2 ^ 36) ∷ pos (3 * 2 ^ 36) ∷ pos 7 ∷ pos 0 ∷ pos 0 ∷ [] in
+    let b = placed_distance 36 xs (3 ∷ 4 ∷ 1 ∷ 0 ∷ []) (pos 5) (record { column = 1; radius_log = negsuc 31; bound = 36; spread = 144 }) in
+    (map b.reach (range_with_len 0 5) ≡ 0 ∷ 0 ∷ 0 ∷ 0 ∷ 16 ∷ [])
+    × (b.retained ≡ (
+    let u = minus (unknown 3) (unknown 1) in
+    let v = minus (unknown 4) (unknown 0) in
+    minus (plus (times u u) (times v v)) (times (number (pos 5)) (number (pos 5))) ∷ []))
+    )
+five-apart_placed = (refl, refl)

@@ -12,3 +12,5 @@ pub mod PassedLaws
 pub mod CertifiedBox
 pub mod CertifiedLaws
 pub mod DistanceSound
+pub mod PlacedBox
+pub mod PlacedLaws
