@@ -14,3 +14,5 @@ pub mod CertifiedLaws
 pub mod DistanceSound
 pub mod PlacedBox
 pub mod PlacedLaws
+pub mod FreeSystem
+pub mod FreeLaws
