@@ -1,5 +1,5 @@
 // The real folder. It tells nothing, and counts each error.
-ghost use Rattle.std.specs.Prelude.{None};
+ghost use Rattle.std.specs.Prelude.{◌≡◌, None};
 
 use crate::{Folder, OuterFault};
 use std::alloc::Global;
@@ -18,8 +18,11 @@ pub struct DiskFolder<'r, R: Files> {
 }
 
 impl<'r, R: Files> DiskFolder<'r, R> {
-    /// The folder in which the program runs.
-    pub fn new(rt: &'r R) -> DiskFolder<'r, R> {
+    /// The folder in which the program runs. It tells nothing, and no call of it has failed.
+    pub fn new(rt: &'r R) -> DiskFolder<'r, R>
+        ensures files { ⟦<DiskFolder<'r, R> as Folder>⟧.files result ≡ None }
+        ensures faults { ⟦<DiskFolder<'r, R> as Folder>⟧.faults result ≡ 0 }
+    {
         DiskFolder { rt, faults: 0 }
     }
 }

@@ -1,5 +1,5 @@
 // The real output. It tells nothing, and counts each error.
-ghost use Rattle.std.specs.Prelude.{None};
+ghost use Rattle.std.specs.Prelude.{◌≡◌, None};
 
 use crate::{OuterFault, Sink};
 use std::io;
@@ -13,8 +13,11 @@ pub struct OutSink<W: Write> {
 }
 
 impl<W: Write> OutSink<W> {
-    /// A sink that writes to `out`.
-    pub fn new(out: W) -> OutSink<W> {
+    /// A sink that writes to `out`. It tells nothing, and no call of it has failed.
+    pub fn new(out: W) -> OutSink<W>
+        ensures taken { ⟦<OutSink<W> as Sink>⟧.taken result ≡ None }
+        ensures faults { ⟦<OutSink<W> as Sink>⟧.faults result ≡ 0 }
+    {
         OutSink { out, faults: 0 }
     }
 }
