@@ -1,3 +1,4 @@
 pub mod EndsLemmas
 pub mod RootLemmas
 pub mod SpellingLemmas
+pub mod ReadBack

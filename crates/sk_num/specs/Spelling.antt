@@ -1,5 +1,5 @@
 -- Numbers as texts: quantities in decimal, handles in hexadecimal, whole numbers.
-use Rattle.std.specs.Prelude.{ℕ, ◌+◌, ◌*◌, ◌/◌, ◌%◌, ◌^◌, ◌==◌, Bool, true, false, nat_le, nat_lt, List, [], ◌∷◌, length, ℤ, pos, ◌*ℤ◌, unsigned_abs, Option, Some, None, option_map, Result, Ok, Err, if◌then◌else◌}
+use Rattle.std.specs.Prelude.{◌≡◌, ℕ, ◌+◌, ◌*◌, ◌/◌, ◌%◌, ◌^◌, ◌==◌, Bool, true, false, nat_le, nat_lt, List, [], ◌∷◌, length, ℤ, pos, ◌*ℤ◌, unsigned_abs, Option, Some, None, option_map, Result, Ok, Err, if◌then◌else◌}
 use Rattle.std.specs.Int.{is_negative}
 use Rattle.sk_digits.specs.declared.decimal.Decimal.{Decimal}
 use Rattle.sk_digits.specs.Numerals.{numeral}
@@ -7,7 +7,8 @@ use Rattle.sk_digits.specs.Decimals.{decimal_of, decimal_text}
 use Rattle.sk_whole.specs.Division.{nearest, signed}
 use Rattle.sk_num.specs.declared.fault.NumFault.{NumFault}
 use Rattle.sk_num.specs.declared.fault.NumFault.TheVariants.{BadNumber, OutOfGrid}
-use Rattle.sk_num.specs.Limit.{is_in_limit}
+use Rattle.sk_num.specs.Limit.{IsInLimit, is_in_limit}
+use Rattle.sk_num.specs.Scale.{IsScale}
 
 -- ---- quantities: decimal numbers cut to 20 decimals, to the nearest unit
 
@@ -37,6 +38,10 @@ decimal_from n = record { negative = is_negative n; whole = unsigned_abs n / 10 
 -- the text of z units of 2^-s
 unfoldable pub quantity_text : ℕ → ℤ → List ℕ
 quantity_text s z = decimal_text (decimal_from (nearest (z *ℤ pos (10 ^ 20)) (pos (2 ^ s))))
+
+-- what is written of a grid number reads back as it
+abbrev pub QuantityLaw : Type 0
+QuantityLaw = (s : ℕ) (z : ℤ) → IsScale s → IsInLimit z → quantity_of s (quantity_text s z) ≡ Ok z
 
 -- ---- handles: one to eight hexadecimal digits
 

@@ -25,7 +25,7 @@ pub use roots::{isqrt_ceil, isqrt_floor, root};
 pub use rounding::{rdiv, rmul};
 pub use span::Span;
 pub use spelling::{
-    QuantityText, handle_text, quantity_text, read_handle, read_quantity, read_whole,
+    QuantityText, handle_text, quantity_law, quantity_text, read_handle, read_quantity, read_whole,
 };
 
 #[cfg(test)]

@@ -4,7 +4,7 @@ ghost use Rattle.sk_whole.specs.Division.{nearest, IsNearest};
 ghost use Rattle.sk_digits.specs.Numerals.{padded};
 ghost use Rattle.sk_num.specs.Limit.{IsInLimit};
 ghost use Rattle.sk_num.specs.Scale.{IsScale};
-ghost use Rattle.sk_num.specs.Spelling.{numerator, units_of, quantity_of, quantity_text, handle_of, whole_of};
+ghost use Rattle.sk_num.specs.Spelling.{numerator, units_of, quantity_of, quantity_text, QuantityLaw, handle_of, whole_of};
 ghost use Rattle.sk_num.specs.Decimals.{magnitude_at, decimal_at};
 
 use crate::fault::NumFault;
@@ -72,6 +72,12 @@ pub fn quantity_text<const S: u32>(g: Grid<S>) -> QuantityText
     let (bytes, len) = decimal_text(&d);
     QuantityText { bytes, len }
 }
+
+/// What is written of a grid number reads back as it: a law, of every grid number. The function
+/// does nothing when it runs.
+pub fn quantity_law()
+    ensures { QuantityLaw }
+{}
 
 // The decimal number nearest to a grid number, halves away from zero.
 fn nearest_decimal<const S: u32>(g: Grid<S>) -> Decimal

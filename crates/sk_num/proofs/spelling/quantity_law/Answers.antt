@@ -1,0 +1,5 @@
+use Rattle.sk_num.proofs.ReadBack.{quantity-read_back}
+use Rattle.sk_num.proofs.spelling.quantity_law.Goals as goal
+
+pub returns : goal.returns
+returns c = quantity-read_back
