@@ -138,7 +138,7 @@ blocks_shrunk text (x ∷ xs) all = elim (two (is_gone x)) [
     gone_none (Lines s) g = cc
     gone_none (Held r) g = cc
 
-shrunk_within : (text : List ℕ) (x : Item) → ItemWithin text x → ItemWithin text (or_else x (shrunk text x))
+pub shrunk_within : (text : List ℕ) (x : Item) → ItemWithin text x → ItemWithin text (or_else x (shrunk text x))
 shrunk_within text Gone is = tt
 shrunk_within text (Held r) is = is
 shrunk_within text (Lines s) is =

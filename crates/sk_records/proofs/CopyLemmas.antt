@@ -25,7 +25,7 @@ copy_record a b k r c = record {
     same : (text : List ℕ) → rec_at text b ≡ rec_at text a
     same text = rw (k, c) (ap (λ (rows : List held.Row). record { kind = a.kind; rows = rows_at text rows; close = line_at text a.close }) r)
 
-gone_none : (text : List ℕ) (x : Item) → is_gone x ≡ true → item_blocks text x ≡ []
+pub gone_none : (text : List ℕ) (x : Item) → is_gone x ≡ true → item_blocks text x ≡ []
 gone_none text Gone g = refl
 gone_none text (Lines s) g = cc
 gone_none text (Held r) g = cc

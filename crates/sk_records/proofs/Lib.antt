@@ -32,3 +32,5 @@ pub mod NewPlace
 pub mod RecordPut
 pub mod ReadyLemmas
 pub mod RecordGoes
+pub mod Without
+pub mod AnewSet

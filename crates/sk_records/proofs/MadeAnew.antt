@@ -2,7 +2,8 @@
 use Rattle.std.proofs.Common.{◌≡◌, ℕ, List, [], ◌∷◌, ◌++◌, take, drop, refl, ap, sym, ◌∙◌, cond, true, false, Bool, ◌⊎◌, inl, inr}
 use Rattle.std.proofs.lemmas.List.{take-append-drop}
 use Rattle.sk_records.specs.declared.kinds.Kind.{Kind}
-use Rattle.sk_records.specs.Blocks.{Block, Rec, Loose, Record, is_of, is_blank, without, feed_line, has, before_kind, from_kind, with_tails, AllOf, made_anew, new_place, ended, ended_last}
+use Rattle.sk_records.specs.Kinds.{same_kind}
+use Rattle.sk_records.specs.Blocks.{Block, Rec, Loose, Record, is_of, is_blank, without, feed_line, has, before_kind, from_kind, with_tails, AllOf, made_anew, add_records, new_place, ended, ended_last}
 
 pub two : (t : Bool) → (t ≡ true) ⊎ (t ≡ false)
 two true = inl refl
@@ -44,6 +45,10 @@ pub without_none : (k : Kind) (bs : List Block) → has k bs ≡ false → witho
 without_none k [] h = refl
 without_none k (b ∷ bs) h = elim (two (is_of k b)) [ inl e ↦ (let g = rw e at h in cc g) | inr e ↦ rw e (ap (λ l. b ∷ l) (without_none k bs (rw e at h))) ]
 
+-- made anew where the first stands
+pub anew_at : (k : Kind) (rs : List Rec) (a : List Block) (b : Block) (c : List Block) → has k a ≡ false → is_of k b ≡ true → made_anew k rs (a ++ (b ∷ c)) ≡ a ++ (with_tails rs ++ without k false (b ∷ c))
+anew_at k rs a b c h e = rw (has_at k a b c e, front-append k a b c h e, rest-append k a b c h e) refl
+
 -- made anew again where they stand
 pub anew_again : (k : Kind) (a c : List Block) (r : Rec) (rs : List Rec) → has k a ≡ false → has k c ≡ false → AllOf k (r ∷ rs) → made_anew k (r ∷ rs) (a ++ (with_tails (r ∷ rs) ++ c)) ≡ a ++ (with_tails (r ∷ rs) ++ c)
 anew_again k a c r rs h g all =
@@ -83,3 +88,13 @@ anew_twice k r rs bs all = elim (two (has k bs)) [
       let is : made_anew k (r ∷ rs) bs ≡ ended_last (take n bs) ++ (with_tails (r ∷ rs) ++ drop n bs) = rw e refl in
       rw is (anew_again k (ended_last (take n bs)) (drop n bs) r rs (has-ended_last k (take n bs) ∙ has_take k n bs e) (has_drop k n bs e) all))
 ]
+
+-- where none stood, they may as well be made anew where a single one was put
+pub anew_marked : (k : Kind) (x r : Rec) (rs : List Rec) (bs : List Block) → same_kind x.kind k ≡ true → has k bs ≡ false → made_anew k (r ∷ rs) (add_records k (x ∷ []) bs) ≡ made_anew k (r ∷ rs) bs
+anew_marked k x r rs bs e h =
+    let n : ℕ = new_place k bs in
+    let front : List Block = ended_last (take n bs) in
+    let tail : List Block = Loose feed_line ∷ drop n bs in
+    let none : has k front ≡ false = has-ended_last k (take n bs) ∙ has_take k n bs h in
+    let left : without k false (Record x ∷ tail) ≡ drop n bs = rw e (without_none k (drop n bs) (has_drop k n bs h)) in
+    anew_at k (r ∷ rs) front (Record x) tail none e ∙ ap (λ l. front ++ (with_tails (r ∷ rs) ++ l)) left ∙ rw h refl

@@ -17,7 +17,7 @@ use Rattle.sk_records.proofs.HeldLines.{blocks-append}
 use Rattle.sk_records.proofs.PlacesLemmas.{length_places}
 use Rattle.sk_records.proofs.ItemSet.{split_at}
 
-none_of_kind : (k : Kind) (bs : List Block) → length (records k bs) ≡ 0 → has k bs ≡ false
+pub none_of_kind : (k : Kind) (bs : List Block) → length (records k bs) ≡ 0 → has k bs ≡ false
 none_of_kind k [] e = refl
 none_of_kind k (Loose l ∷ bs) e = none_of_kind k bs e
 none_of_kind k (Record r ∷ bs) e = elim (two (same_kind r.kind k)) [

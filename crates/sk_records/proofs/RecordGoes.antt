@@ -158,7 +158,7 @@ module _ {A : Type 0} (old new : List ℕ) (k : Kind) (header : Span) (items : L
 
 -- the items made ready hold the same book
 module _ {A : Type 0} (old mid : List ℕ) (header : Span) (items items1 : List Item) (was : List (Vec ℕ A)) (g : IsGrown old mid) (first : IsWithin old header) (held : IsHeld old items was) (same : blocks_at mid items1 ≡ blocks_at mid items) where
-  ready_book : book_blocks mid header items1 ≡ book_blocks old header items
+  pub ready_book : book_blocks mid header items1 ≡ book_blocks old header items
   ready_book = ap (λ (bs : List Block). Loose (line_at mid header) ∷ bs) same ∙ book_same old mid header items g first held.within
 
   pub kept_ready : (now : List (Vec ℕ A)) → IsHeld mid items1 now → IsKept old mid header header items items1 now

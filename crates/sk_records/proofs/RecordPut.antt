@@ -42,7 +42,7 @@ held_kind text (Held q) given e j =
     let same : rec_at text q ≡ given = cc in
     ap (λ (r : Rec). same_kind r.kind j) same
 
-none_there : (xs : List ℕ) → length xs ≡ 0 → xs ≡ []
+pub none_there : (xs : List ℕ) → length xs ≡ 0 → xs ≡ []
 none_there [] e = refl
 none_there (x ∷ xs) e = absurd (omega (arith, e))
 

@@ -21,3 +21,4 @@ pub mod GivenHeld
 pub mod Inserted
 pub mod Spots
 pub mod Ready
+pub mod Anew

@@ -38,8 +38,8 @@ pub(crate) fn push_ended(text: &mut Vec<u8>, line: Span) -> Result<Span, AllocEr
     })
 }
 
-// An empty line, put behind the text.
-fn push_feed(text: &mut Vec<u8>) -> Result<Stretch, AllocError>
+/// An empty line, put behind the text.
+pub(crate) fn push_feed(text: &mut Vec<u8>) -> Result<Stretch, AllocError>
     ensures feed { IfOk result (λ s. item_blocks text.new.items (Lines s) ≡ Loose feed_line ∷ []) }
     ensures within { IfOk result (λ s. ItemWithin text.new.items (Lines s)) }
     ensures grown { IsGrown text.old.items text.new.items }
@@ -100,6 +100,7 @@ pub(crate) fn put_record(
     requires held { IsHeld text.old.items items.old.items places.old.items }
     requires ready { IsReady text.old.items kind items.old.items ready.at ready.before }
     requires new { IsNew text.old.items kind new tail }
+    ensures grown { IsGrown text.old.items text.new.items }
     ensures ok { OnOk result (IsPut text.old.items text.new.items kind new header.old header.new items.old.items items.new.items places.new.items) }
     ensures err { OnErr result (IsKept text.old.items text.new.items header.old header.new items.old.items items.new.items places.new.items) }
 {

@@ -2,17 +2,18 @@
 ghost use Rattle.std.specs.Prelude.{◌≡◌, ◌⊎◌, ◌<◌, ◌++◌, List, ℕ, length, MatchResult, Ok, Err, OnOk, OnErr, IfOk};
 ghost use Rattle.std.specs.Option.{option_copied};
 ghost use Rattle.sk_text.specs.Lines.{lines_in};
-ghost use Rattle.sk_records.specs.Blocks.{records, on_record, dropped, add_records};
+ghost use Rattle.sk_records.specs.Blocks.{records, on_record, dropped, add_records, made_anew};
 ghost use Rattle.sk_records.specs.Rows.{last_value, last_number, with_value, with_map};
-ghost use Rattle.sk_records.specs.Given.{IsKey, IsValue, AllEnded, is_whole_list, given_list, IsOneRecord, given_records};
+ghost use Rattle.sk_records.specs.Given.{IsKey, IsValue, AllEnded, is_whole_list, given_list, IsOneRecord, AreRecords, given_records};
 ghost use Rattle.std.specs.Prelude.{true};
-ghost use Rattle.sk_records.specs.declared.kinds.Kind.TheVariants.{Group};
+ghost use Rattle.sk_records.specs.declared.kinds.Kind.TheVariants.{Group, Entity};
 ghost use Rattle.sk_records.specs.Reading.{read_text};
 ghost use Rattle.sk_records.specs.Written.{bytes_of, IsText};
 ghost use Rattle.sk_records.specs.Answers.{IsAnswer, rows_in};
 ghost use Rattle.sk_records.specs.MapRows.{entry_lines};
 
 use crate::adding::add_given;
+use crate::anew::set_anew;
 use crate::changes::{set_list_at, set_value_at};
 use crate::classes::is_header;
 use crate::copying::copy_items;
@@ -176,6 +177,26 @@ impl Book {
         let at = places::place_of(&self.places, &self.items, rec);
         remove_at(&self.text, &mut self.items, at);
         places::remove_place(&mut self.places, rec);
+    }
+
+    /// Makes all entity records anew: they go, each with its tail, and the new ones stand where the first of them stood;
+    /// where there was none, the new ones are added as by `add_record`. At an `Err` the book is as it was.
+    ///
+    /// The lines are whole entity records, each with an empty line behind it, every line ended by a line feed alone or by a
+    /// carriage return and a line feed. No lines take all entity records away.
+    pub fn set_entities(&mut self, lines: &[u8]) -> Result<(), AllocError>
+        requires given { AreRecords Entity lines.now }
+        ensures ok { OnOk result (self.new ≡ made_anew Entity (given_records lines.now) self.old) }
+        ensures err { OnErr result (self.new ≡ self.old) }
+    {
+        set_anew(
+            &mut self.text,
+            &mut self.header,
+            &mut self.items,
+            &mut self.places,
+            Kind::Entity,
+            lines,
+        )
     }
 
     /// An equal book.

@@ -6,7 +6,7 @@ use crate::items::{Item, Record};
 use crate::removing::is_gone;
 use std::alloc::{AllocError, Global};
 
-fn copy_item(alloc: Global, item: &Item) -> Result<Item, AllocError>
+pub(crate) fn copy_item(alloc: Global, item: &Item) -> Result<Item, AllocError>
     ensures { IfOk result (IsCopy item.now) }
 {
     match item {

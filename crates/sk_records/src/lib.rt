@@ -2,6 +2,7 @@
 #![tactic(auto)]
 
 mod adding;
+mod anew;
 mod book;
 mod changes;
 mod classes;

@@ -20,7 +20,7 @@ pub(crate) fn blank_len(text: &[u8], stretch: Stretch) -> usize
 }
 
 // What is left of an item without the empty line at its front; None where no such line stands there.
-fn without_blank(text: &[u8], item: &Item) -> Option<Item>
+pub(crate) fn without_blank(text: &[u8], item: &Item) -> Option<Item>
     requires { ItemWithin text.now item.now }
     ensures { result ≡ shrunk text.now item.now }
 {

@@ -51,3 +51,11 @@ returns-clause-ok c =
           rw (w.text-is, w.header-is, w.items-is, w.places-is)
           (goes_tail old old c.args.kind c.args.header.now items c.args.ready.at c.args.new c.args.tail c.args.places.now.items w.push_place-in-Tail.new.places.items (grown_none old) c.requires.first c.requires.held c.requires.new w.in_ok-push_place-in-Tail.ensures.ok ready))
     ]
+
+pub returns-clause-grown : goal.returns-clause-grown
+returns-clause-grown c =
+    elim c.match-ready.branch [
+      | in-Header+in_ok-line-in-Header+in_ok-push_place-in-Header w ↦ rw w.text-is w.push_ended.ensures.grown
+      | in-Record+in_ok-line-in-Record+in_ok-push_place-in-Record w ↦ rw w.text-is w.push_ended-in-Record.ensures.grown
+      | in-Tail+in_ok-push_place-in-Tail w ↦ rw w.text-is (grown_none c.args.text.now.items)
+    ]
