@@ -9,6 +9,7 @@ use Rattle.sk_records.specs.Rows.{Row, Role, Plain, Brace, Entry, value_at, valu
 use Rattle.sk_records.specs.Blocks.{Block, Rec, Loose, Record, is_of, is_blank, without, has, before_kind, from_kind, with_tails, made_anew, add_records, put_at, ended, ended_last, end_of_last, first_end, tail_len, on_record, on_records, dropped}
 use Rattle.sk_records.specs.Classes.{Value, class_of, is_header}
 use Rattle.sk_records.specs.Written.{fits, within_then, Fit, Opened, is_loose, IsBlock, AreBlocks, HasHeader}
+use Rattle.sk_records.specs.Laws.{AreRecs}
 use Rattle.sk_records.proofs.MadeAnew.{two}
 use Rattle.sk_records.proofs.ReadAgain.{same_kind_refl}
 
@@ -146,11 +147,6 @@ are_on_records k f (Record r ∷ bs) keeps is = (
   ],
   are_on_records k f bs keeps is.1,
 )
-
--- a record that may be put
-abbrev pub AreRecs : List Rec → Type 0
-AreRecs [] = Unit {0}
-AreRecs (r ∷ rs) = IsBlock (Record r) × AreRecs rs
 
 blank_class : is_loose (class_of []) ≡ true
 unfolding class_of

@@ -10,6 +10,7 @@ use Rattle.sk_records.specs.Blocks.{Block, Rec, Loose, Record, is_of, is_blank, 
 use Rattle.sk_records.specs.Reading.{row_line, row_lines, block_lines}
 use Rattle.sk_records.specs.Written.{lines_of}
 use Rattle.sk_records.specs.Given.{AllEnded}
+use Rattle.sk_records.specs.Laws.{EndedRecords}
 use Rattle.sk_records.proofs.MadeAnew.{two}
 
 are_more : (l : TextLine) (ls : List TextLine) → IsEnded l → AreLines ls → AreLines (l ∷ ls)
@@ -83,10 +84,6 @@ ends_rest k (b ∷ bs) is = elim (two (is_of k b)) [ inl e ↦ rw e is | inr e �
 
 blank_ended : IsEnded feed_line
 blank_ended = record { clear = tt; end = inl (refl, refl) }
-
-abbrev pub EndedRecords : List Rec → Type 0
-EndedRecords [] = Unit {0}
-EndedRecords (r ∷ rs) = AllEnded (block_lines (Record r)) × EndedRecords rs
 
 pub ends_tails : (rs : List Rec) → EndedRecords rs → AllEnded (lines_of (with_tails rs))
 ends_tails [] all = tt

@@ -34,3 +34,4 @@ pub mod ReadyLemmas
 pub mod RecordGoes
 pub mod Without
 pub mod AnewSet
+pub mod LawProofs

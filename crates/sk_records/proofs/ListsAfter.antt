@@ -4,11 +4,8 @@ use Rattle.std.specs.Option.{option_or}
 use Rattle.std.specs.List.{filter}
 use Rattle.std.proofs.lemmas.List.{append-nil}
 use Rattle.sk_records.specs.Rows.{Row, Role, Plain, Brace, Entry, value_at, value_in, last_value, is_known, with_value, is_plain_role, is_entry_role, is_plain, entries, with_map}
+use Rattle.sk_records.specs.Laws.{NonePlain}
 use Rattle.sk_records.proofs.MadeAnew.{two}
-
-abbrev pub NonePlain : List Row → Type 0
-NonePlain [] = Unit {0}
-NonePlain (r ∷ rs) = (is_plain r ≡ false) × NonePlain rs
 
 filter-append : {X : Type 0} (p : X → Bool) (a b : List X) → filter p (a ++ b) ≡ filter p a ++ filter p b
 filter-append p [] b = refl

@@ -5,7 +5,8 @@ use Rattle.sk_records.specs.Kinds.{same_kind}
 use Rattle.sk_records.specs.Rows.{Row}
 use Rattle.sk_records.specs.Blocks.{Block, Loose, Record, records, on_record, on_records, on_block}
 use Rattle.sk_records.proofs.MadeAnew.{two}
-use Rattle.sk_records.proofs.RecordsAfter.{mapped_kept, AllSame}
+use Rattle.sk_records.specs.Laws.{AllSame, where_it, NoneOf, Only}
+use Rattle.sk_records.proofs.RecordsAfter.{mapped_kept}
 
 block_then : (k : Kind) (f g : List Row → List Row) (b : Block) → on_block k f (on_block k g b) ≡ on_block k (λ (rows : List Row). f (g rows)) b
 block_then k f g (Loose l) = refl
@@ -15,19 +16,6 @@ block_then k f g (Record r) = elim (two (same_kind r.kind k)) [ inl e ↦ rw (e,
 pub pass_then : (k : Kind) (f g : List Row → List Row) (bs : List Block) → on_records k f (on_records k g bs) ≡ on_records k (λ (rows : List Row). f (g rows)) bs
 pass_then k f g [] = refl
 pass_then k f g (b ∷ bs) = rw (block_then k f g b, pass_then k f g bs) refl
-
-abbrev pub where_it : (List Row → Bool) → (List Row → List Row) → List Row → List Row
-where_it t f rows = cond (t rows) (f rows) rows
-
-abbrev pub NoneOf : (List Row → Bool) → List (List Row) → Type 0
-NoneOf t [] = Unit {0}
-NoneOf t (r ∷ rs) = (t r ≡ false) × NoneOf t rs
-
--- the test holds of the record with this place alone
-abbrev pub Only : (List Row → Bool) → ℕ → List (List Row) → Type 0
-Only t i [] = ⊥
-Only t zero (r ∷ rs) = (t r ≡ true) × NoneOf t rs
-Only t (suc i) (r ∷ rs) = (t r ≡ false) × Only t i rs
 
 none_same : (t : List Row → Bool) (f : List Row → List Row) (rs : List (List Row)) → NoneOf t rs → AllSame (where_it t f) rs
 none_same t f [] none = tt

@@ -7,7 +7,8 @@ use Rattle.sk_records.specs.Kinds.{kinds_to}
 use Rattle.sk_records.specs.Blocks.{Block, Rec, Loose, Record, is_of, is_blank, tail_len, end_of_last, first_end, new_place, with_tails, has, made_anew, add_records, feed_line}
 use Rattle.sk_records.specs.Written.{lines_of}
 use Rattle.sk_records.proofs.MadeAnew.{two}
-use Rattle.sk_records.proofs.EndsKept.{Mends, last_line, LastMends, EndedRecords, ends_put, ends_anew, ends_mended, ends_tails, ends_take}
+use Rattle.sk_records.specs.Laws.{EndedRecords}
+use Rattle.sk_records.proofs.EndsKept.{Mends, last_line, LastMends, ends_put, ends_anew, ends_mended, ends_tails, ends_take}
 
 -- closing lines may get an end
 abbrev pub RecordsMend : List Block → Type 0

@@ -9,6 +9,7 @@ use Rattle.sk_records.specs.declared.kinds.Kind.TheVariants.{Group, Param, Reque
 use Rattle.sk_records.specs.Kinds.{same_kind, kind_place}
 use Rattle.sk_records.specs.Rows.{Row}
 use Rattle.sk_records.specs.Blocks.{Block, Rec, Loose, Record, records, of_kind, is_of, is_blank, without, with_rows, has, before_kind, from_kind, with_tails, AllOf, rows_of, on_records, on_block, made_anew, add_records, put_at, new_place, ended, ended_last, end_of_last, tail_len, on_record, dropped, changed_at, removed_at}
+use Rattle.sk_records.specs.Laws.{AllSame}
 use Rattle.sk_records.proofs.MadeAnew.{two, has_front, or_false_left, or_false_right, has_without, has_drop}
 
 pub records-append : (k : Kind) (a b : List Block) → records k (a ++ b) ≡ records k a ++ records k b
@@ -197,10 +198,6 @@ mapped_none k j f apart (Record r) = elim (two (same_kind r.kind k)) [
 pub mapped_other : (k j : Kind) (f : List Row → List Row) → same_kind k j ≡ false → (bs : List Block) → records j (on_records k f bs) ≡ records j bs
 mapped_other k j f apart [] = refl
 mapped_other k j f apart (b ∷ bs) = rw (mapped_none k j f apart b) (ap (λ l. of_kind j b ++ l) (mapped_other k j f apart bs))
-
-abbrev pub AllSame : (List Row → List Row) → List (List Row) → Type 0
-AllSame f [] = Unit {0}
-AllSame f (r ∷ rs) = (f r ≡ r) × AllSame f rs
 
 -- the law: where no record changes, the text doesn't
 pub mapped_kept : (k : Kind) (f : List Row → List Row) (bs : List Block) → AllSame f (records k bs) → on_records k f bs ≡ bs

@@ -13,12 +13,13 @@ use Rattle.sk_records.specs.Classes.{Value, Opens, Closes, class_of, closing_cla
 use Rattle.sk_records.specs.Reading.{row_line, row_lines, block_lines, Outside}
 use Rattle.sk_records.specs.Written.{lines_of, within_then, Fit, Opened, AreBlocks, IsText, bare_rows, bare_rec, bare}
 use Rattle.sk_records.specs.Given.{IsKey, IsValue, has_byte, AllEnded, is_end_of_list, is_list_rest, is_whole_list, list_role, list_row, given_list, recs_of, recs_read, given_records, IsOneRecord, AreRecords}
+use Rattle.sk_records.specs.Laws.{AreRecs, EndedRecords, IsGiven}
 use Rattle.sk_records.proofs.MadeAnew.{two}
 use Rattle.sk_records.proofs.ValuesAfter.{same_bytes}
 use Rattle.sk_records.proofs.ReadSound.{reads_sound, same_kinds}
 use Rattle.sk_records.proofs.ClassOfLine.{class_of_value}
-use Rattle.sk_records.proofs.BlocksKept.{opened_value, opened_map, header_added, header_anew, header_on_record, header_dropped, AreRecs}
-use Rattle.sk_records.proofs.EndsKept.{Mends, EndedRecords, ends_on_record, ends_dropped, ends_anew}
+use Rattle.sk_records.proofs.BlocksKept.{opened_value, opened_map, header_added, header_anew, header_on_record, header_dropped}
+use Rattle.sk_records.proofs.EndsKept.{Mends, ends_on_record, ends_dropped, ends_anew}
 use Rattle.sk_records.proofs.PlaceEnded.{RecordsMend, ends_added}
 
 -- ---- closing lines and the header may get an end
@@ -156,7 +157,7 @@ module _ (k : Kind) (key value : List ℕ) (is_key : IsKey k key) (is_value : Is
   value_end body ending (inl e) = inl (e.0, body_return)
   value_end body ending (inr e) = inr e
 
-  value_ended : (rows : List Row) → AllEnded (row_lines rows) → AllEnded (row_lines (with_value key value rows))
+  pub value_ended : (rows : List Row) → AllEnded (row_lines rows) → AllEnded (row_lines (with_value key value rows))
   value_ended [] all = (record { clear = body_clear; end = inl (refl, body_return) }, tt)
   value_ended (r ∷ rs) all = elim (two (is_known (last_value key rs))) [
     | inl h ↦ rw h (all.0, value_ended rs all.1)
@@ -166,7 +167,7 @@ module _ (k : Kind) (key value : List ℕ) (is_key : IsKey k key) (is_value : Is
     ]
   ]
 
-  value_opened : (j : Kind) (rows : List Row) → same_kind j k ≡ true → Opened j rows → Opened j (with_value key value rows)
+  pub value_opened : (j : Kind) (rows : List Row) → same_kind j k ≡ true → Opened j rows → Opened j (with_value key value rows)
   value_opened j rows same is = opened_value j key value rows (class_of_value k key value is_key ∙ ap Value (sym (same_kinds j k same))) is
 
   -- a text with a value set is a text
@@ -212,14 +213,14 @@ rest_fits (l ∷ ls) e = elim (two (is_shut l.body)) [
   ]
 ]
 
-list_fits : (ls : List TextLine) → is_whole_list ls ≡ true → Fit Group false (map list_row ls)
+pub list_fits : (ls : List TextLine) → is_whole_list ls ≡ true → Fit Group false (map list_row ls)
 list_fits [] e = cc
 list_fits (l ∷ ls) e = elim (two (is_opening l.body)) [
   | inl f ↦ rw f (rw (opens l.body f) refl, rest_fits ls (rw f at e))
   | inr f ↦ (let g = rw f at e in cc g)
 ]
 
-list_lines : (ls : List TextLine) → row_lines (map list_row ls) ≡ ls
+pub list_lines : (ls : List TextLine) → row_lines (map list_row ls) ≡ ls
 list_lines [] = refl
 list_lines (l ∷ ls) = ap (λ x. l ∷ x) (list_lines ls)
 
@@ -231,7 +232,7 @@ plain_ended : (rows : List Row) → AllEnded (row_lines rows) → AllEnded (row_
 plain_ended [] all = tt
 plain_ended (r ∷ rs) all = elim (two (is_plain_role r.role)) [ inl e ↦ rw e (all.0, plain_ended rs all.1) | inr e ↦ rw e (plain_ended rs all.1) ]
 
-map_ended : (new rows : List Row) → AllEnded (row_lines new) → AllEnded (row_lines rows) → AllEnded (row_lines (with_map new rows))
+pub map_ended : (new rows : List Row) → AllEnded (row_lines new) → AllEnded (row_lines rows) → AllEnded (row_lines (with_map new rows))
 map_ended new [] n all = n
 map_ended new (r ∷ rs) n all = elim (two (is_plain_role r.role)) [
   | inl e ↦ rw e (all.0, map_ended new rs n all.1)
@@ -287,11 +288,6 @@ recs_ended (r ∷ rs) all =
 recs_kind : (k : Kind) (rs : List Rec) → AllOf k rs → AllOf k (recs_of (bare (with_tails rs)))
 recs_kind k [] all = tt
 recs_kind k (r ∷ rs) all = (all.0, recs_kind k rs all.1)
-
-pub record IsGiven (k : Kind) (rs : List Rec) : Type 0 where
-  pub recs : AreRecs rs
-  pub ended : EndedRecords rs
-  pub kind : AllOf k rs
 
 -- records that are given with their tails
 pub given_with_tails : (k : Kind) (lines : List ℕ) → AreRecords k lines → IsGiven k (given_records lines)

@@ -22,3 +22,4 @@ pub mod Inserted
 pub mod Spots
 pub mod Ready
 pub mod Anew
+pub mod Laws

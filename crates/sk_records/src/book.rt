@@ -8,7 +8,7 @@ ghost use Rattle.sk_records.specs.Given.{IsKey, IsValue, AllEnded, is_whole_list
 ghost use Rattle.std.specs.Prelude.{true};
 ghost use Rattle.sk_records.specs.declared.kinds.Kind.TheVariants.{Group, Entity};
 ghost use Rattle.sk_records.specs.Reading.{read_text};
-ghost use Rattle.sk_records.specs.Written.{bytes_of, IsText};
+ghost use Rattle.sk_records.specs.Written.{bytes_of, IsText, numbered};
 ghost use Rattle.sk_records.specs.Answers.{IsAnswer, rows_in};
 ghost use Rattle.sk_records.specs.MapRows.{entry_lines};
 
@@ -182,8 +182,8 @@ impl Book {
     /// Makes all entity records anew: they go, each with its tail, and the new ones stand where the first of them stood;
     /// where there was none, the new ones are added as by `add_record`. At an `Err` the book is as it was.
     ///
-    /// The lines are whole entity records, each with an empty line behind it, every line ended by a line feed alone or by a
-    /// carriage return and a line feed. No lines take all entity records away.
+    /// The lines are whole entity records, each with an empty line (a line feed) behind it, each ended. Where no lines are
+    /// given, the book has no entity record then.
     pub fn set_entities(&mut self, lines: &[u8]) -> Result<(), AllocError>
         requires given { AreRecords Entity lines.now }
         ensures ok { OnOk result (self.new ≡ made_anew Entity (given_records lines.now) self.old) }
@@ -197,6 +197,21 @@ impl Book {
             Kind::Entity,
             lines,
         )
+    }
+
+    /// A law, and nothing when it runs: the blocks of a book are those of a text.
+    pub fn law_text(&self)
+        ensures { IsText self.now }
+    {
+        let _text = &self.text;
+    }
+
+    /// A law, and nothing when it runs: what `write` appends is read again as the same blocks, numbered anew.
+    pub fn law_read_again(&self)
+        requires small { length (bytes_of self.now) ≤ 2 ^ 26 }
+        ensures { read_text (bytes_of self.now) ≡ Ok (numbered 1 self.now) }
+    {
+        self.law_text();
     }
 
     /// An equal book.

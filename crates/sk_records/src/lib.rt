@@ -13,6 +13,7 @@ mod growing;
 mod inserting;
 mod items;
 mod kinds;
+pub mod laws;
 mod lists;
 mod lookup;
 mod map_lines;

@@ -33,6 +33,17 @@ fn as_line(number: usize) -> u32
     number as u32
 }
 
+// A line of a record, with its number.
+fn row(span: Span, role: Role, number: usize) -> Row
+    ensures { result ≡ record { span = span; role = role; number = Some number } }
+{
+    Row {
+        span,
+        role,
+        number: Some(number),
+    }
+}
+
 // A line outside of records.
 fn outside(
     alloc: Global,
@@ -57,11 +68,7 @@ fn outside(
         }
         LineClass::Value(kind) => {
             let mut rows = Vec::new(alloc);
-            rows.push(Row {
-                span,
-                role: Role::Plain,
-                number: Some(number),
-            })?;
+            rows.push(row(span, Role::Plain, number))?;
             Ok(Some(Open {
                 kind,
                 first: number,
@@ -95,42 +102,23 @@ fn inside(
 {
     let mut current = current;
     match class {
-        LineClass::Empty => {
-            current.rows.push(Row {
-                span,
-                role: Role::Plain,
-                number: Some(number),
-            })?;
-            Ok(Some(current))
-        }
+        LineClass::Empty => current.rows.push(row(span, Role::Plain, number))?,
         LineClass::Value(kind) if kind.is(current.kind) => {
-            current.rows.push(Row {
-                span,
-                role: Role::Plain,
-                number: Some(number),
-            })?;
-            Ok(Some(current))
+            current.rows.push(row(span, Role::Plain, number))?;
         }
         LineClass::Opens if current.kind.is(Kind::Group) => {
-            current.rows.push(Row {
-                span,
-                role: Role::Brace,
-                number: Some(number),
-            })?;
+            current.rows.push(row(span, Role::Brace, number))?;
             current.list = Some(number);
-            Ok(Some(current))
         }
         LineClass::Closes(kind) if kind.is(current.kind) => {
             let Open { kind, rows, .. } = current;
-            items.push(Item::Held(Record {
-                kind,
-                rows,
-                close: span,
-            }))?;
-            Ok(None)
+            let close = span;
+            items.push(Item::Held(Record { kind, rows, close }))?;
+            return Ok(None);
         }
-        _ => Err(ReadFault::BadLine(as_line(number))),
+        _ => return Err(ReadFault::BadLine(as_line(number))),
     }
+    Ok(Some(current))
 }
 
 // A line in a list of a record that the line `at` opened.
@@ -154,19 +142,11 @@ fn within(
     let mut current = current;
     let body = &text[span.start..span.body_end];
     if is_shut(body) {
-        current.rows.push(Row {
-            span,
-            role: Role::Brace,
-            number: Some(number),
-        })?;
+        current.rows.push(row(span, Role::Brace, number))?;
         current.list = None;
         Ok(Some(current))
     } else if is_entry(body) {
-        current.rows.push(Row {
-            span,
-            role: Role::Entry,
-            number: Some(number),
-        })?;
+        current.rows.push(row(span, Role::Entry, number))?;
         Ok(Some(current))
     } else {
         Err(ReadFault::BadLine(as_line(number)))
