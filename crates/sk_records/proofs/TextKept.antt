@@ -126,7 +126,7 @@ text_dropped k i bs is = record { blocks = header_dropped k i bs is.blocks; line
 
 -- ---- a value is set
 
-no_feed : (xs : List ℕ) → has_byte 10 xs ≡ false → NoFeed xs
+pub no_feed : (xs : List ℕ) → has_byte 10 xs ≡ false → NoFeed xs
 no_feed [] e = tt
 no_feed (x ∷ xs) e = elim (two (nat_eq x 10)) [
   | inl f ↦ (let g = rw f at e in cc g)

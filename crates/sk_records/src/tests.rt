@@ -248,3 +248,155 @@ fn a_record_goes_with_its_tail(rt: HostRuntime) -> Result<(), Fail> {
     assert!(rt; bytes(alloc, &book)? == want);
     Ok(())
 }
+
+// Adds request 9.
+fn add_request(book: &mut Book) -> Result<(), AllocError> {
+    let _rec = book.add_record(Kind::Request, b"Request.h.v=00000009\nAddRequest\n")?;
+    Ok(())
+}
+
+// Takes the last request away, where there is one.
+fn drop_request(book: &mut Book) {
+    let count = book.count(Kind::Request);
+    if count > 0 {
+        let last = RecId {
+            kind: Kind::Request,
+            place: count - 1,
+        };
+        book.drop_record(last);
+    }
+}
+
+// Makes the entity records anew: entity 9 alone.
+fn set_entity(book: &mut Book) -> Result<(), AllocError> {
+    book.set_entities(b"Entity.h.v=00000009\nAddEntity\n\n")
+}
+
+#[derive(Clone, Copy)]
+enum Change {
+    AddRequest,
+    DropRequest,
+    SetEntity,
+    SetRemap,
+    SetDistance,
+}
+
+fn apply(book: &mut Book, change: Change) -> Result<(), AllocError> {
+    match change {
+        Change::AddRequest => add_request(book),
+        Change::DropRequest => {
+            drop_request(book);
+            Ok(())
+        }
+        Change::SetEntity => set_entity(book),
+        Change::SetRemap => set_remap(book),
+        Change::SetDistance => set_distance(book),
+    }
+}
+
+const HEAD: &[u8] = b"\xB1\xB2\xB3SolveSpaceREVa\n";
+const GROUP: &[u8] = b"Group.h.v=00000001\nAddGroup\n";
+const GROUP_UNENDED: &[u8] = b"Group.h.v=00000001\nAddGroup";
+const LISTS_HEAD: &[u8] = b"Group.h.v=00000001\n";
+const LISTS: &[u8] = b"Group.remap={\n    1 00040000 0\n}\nGroup.type=1\nGroup.remap={\n}\nAddGroup\n";
+const ONE_LIST: &[u8] = b"Group.remap={\n    9 00090000 1\n}\nGroup.type=1\nAddGroup\n";
+const REQUEST: &[u8] = b"Request.h.v=00000005\nAddRequest\n";
+const NEW_REQUEST: &[u8] = b"Request.h.v=00000009\nAddRequest\n";
+const ENTITY: &[u8] = b"Entity.h.v=00000001\nAddEntity\n";
+const NEW_ENTITY: &[u8] = b"Entity.h.v=00000009\nAddEntity\n";
+const STYLE: &[u8] = b"Style.h.v=00000001\nAddStyle\n";
+const BLANK: &[u8] = b"\n";
+
+fn joined(alloc: Global, parts: &[&[u8]]) -> Result<Vec<u8>, AllocError> {
+    let mut text = Vec::new(alloc);
+    for part in parts {
+        text.extend_from_slice(part)?;
+    }
+    Ok(text)
+}
+
+// A text after some changes.
+fn changed(alloc: Global, parts: &[&[u8]], changes: &[Change]) -> Result<Vec<u8>, AllocError> {
+    let mut book = match Book::read(alloc, joined(alloc, parts)?) {
+        Ok(book) => book,
+        Err(_) => return Err(AllocError),
+    };
+    for change in changes {
+        apply(&mut book, *change)?;
+    }
+    bytes(alloc, &book)
+}
+
+#[test]
+fn records_go_and_come_where_the_text_then_stands(rt: HostRuntime) -> Result<(), Fail> {
+    let alloc = rt.alloc();
+    let rows: [(&str, &[&[u8]], &[Change], &[&[u8]]); 10] = [
+        (
+            "added where the last went before two empty lines",
+            &[HEAD, REQUEST, REQUEST, BLANK, BLANK, STYLE],
+            &[Change::DropRequest, Change::AddRequest],
+            &[HEAD, REQUEST, BLANK, NEW_REQUEST, BLANK, STYLE],
+        ),
+        (
+            "added where all of the kind went",
+            &[HEAD, GROUP, BLANK, STYLE, REQUEST],
+            &[Change::DropRequest, Change::AddRequest],
+            &[HEAD, GROUP, BLANK, NEW_REQUEST, BLANK, STYLE],
+        ),
+        (
+            "added behind the header",
+            &[HEAD, BLANK, STYLE],
+            &[Change::AddRequest],
+            &[HEAD, NEW_REQUEST, BLANK, BLANK, STYLE],
+        ),
+        (
+            "added behind a line without an end",
+            &[HEAD, GROUP_UNENDED],
+            &[Change::AddRequest],
+            &[HEAD, GROUP, NEW_REQUEST, BLANK],
+        ),
+        (
+            "entity records in two places",
+            &[HEAD, GROUP, ENTITY, BLANK, STYLE, ENTITY, ENTITY, BLANK, BLANK],
+            &[Change::SetEntity],
+            &[HEAD, GROUP, NEW_ENTITY, BLANK, STYLE, BLANK],
+        ),
+        (
+            "entity records twice",
+            &[HEAD, ENTITY, STYLE],
+            &[Change::SetEntity, Change::SetEntity],
+            &[HEAD, NEW_ENTITY, BLANK, STYLE],
+        ),
+        (
+            "no entity record",
+            &[HEAD, GROUP, BLANK, STYLE],
+            &[Change::SetEntity],
+            &[HEAD, GROUP, BLANK, NEW_ENTITY, BLANK, STYLE],
+        ),
+        (
+            "no entity record, behind a line without an end",
+            &[HEAD, STYLE, GROUP_UNENDED],
+            &[Change::SetEntity, Change::AddRequest],
+            &[HEAD, STYLE, GROUP, NEW_REQUEST, BLANK, NEW_ENTITY, BLANK],
+        ),
+        (
+            "two remap lists",
+            &[HEAD, LISTS_HEAD, LISTS, STYLE],
+            &[Change::SetRemap],
+            &[HEAD, LISTS_HEAD, ONE_LIST, STYLE],
+        ),
+        (
+            "carriage returns",
+            &[b"\xB1\xB2\xB3SolveSpaceREVa\r\nRequest.h.v=1\r\nAddRequest\r\n\r\nConstraint.valA=5\r\nAddConstraint\r\n"],
+            &[Change::SetDistance, Change::DropRequest, Change::SetEntity],
+            &[b"\xB1\xB2\xB3SolveSpaceREVa\r\n", NEW_ENTITY, BLANK, b"Constraint.valA=6\r\nAddConstraint\r\n"],
+        ),
+    ];
+    for (name, before, changes, after) in rows {
+        assert!(rt;
+            changed(alloc, before, changes)? == joined(alloc, after)?,
+            "{name}"
+        );
+    }
+    Ok(())
+}
