@@ -24,10 +24,10 @@ without_loose k [] more = refl
 without_loose k (l ∷ ls) more = ap (λ bs. Loose l ∷ bs) (without_loose k ls more)
 
 -- behind a record that went an empty line goes
-without_lines : (k : Kind) (l : TextLine) (ls : List TextLine) (more : List Block) → let bs = map Loose (l ∷ ls) ++ without k false more in without k true (map Loose (l ∷ ls) ++ more) ≡ drop (tail_len bs) bs
+without_lines : (k : Kind) (l : TextLine) (ls : List TextLine) (more : List Block) → let bs = map Loose (l ∷ ls) ++ without k false more in drop (tail_len bs) bs ≡ without k true (map Loose (l ∷ ls) ++ more)
 without_lines k l ls more = elim (two (is_empty l.body)) [
-  | inl e ↦ rw e (without_loose k ls more)
-  | inr e ↦ rw e (ap (λ bs. Loose l ∷ bs) (without_loose k ls more))
+  | inl e ↦ rw e (sym (without_loose k ls more))
+  | inr e ↦ rw e (ap (λ bs. Loose l ∷ bs) (sym (without_loose k ls more)))
 ]
 
 -- a record of the kind goes
@@ -45,7 +45,7 @@ left_lines text k (Lines s) g a h is =
     let len : length bytes ≡ s.end - s.start = length_bytes text s.start s.end (omega (arith, is.some)) is.within in
     let first = first_line bytes (omega (arith, len, is.some)) in
     record {
-      blocks = λ more. item_shrunk text (Lines s) (without k false more) refl is ∙ rw first.is (sym (without_lines k first.line first.rest more));
+      blocks = λ more. item_shrunk text (Lines s) (without k false more) refl is ∙ rw first.is (without_lines k first.line first.rest more);
       within = shrunk_within text (Lines s) is;
     }
 

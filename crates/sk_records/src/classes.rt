@@ -6,9 +6,9 @@ ghost use Rattle.std.specs.Option.{option_copied};
 
 use crate::kinds::Kind;
 
-/// A line outside of a remap list.
+/// What a line outside of a remap list is. No call takes or gives it: contracts name it.
 #[derive(Clone, Copy)]
-pub(crate) enum LineClass {
+pub enum LineClass {
     /// An empty line.
     Empty,
     /// A value line of a kind.

@@ -27,6 +27,8 @@ mod tests;
 mod writing;
 
 pub use book::Book;
+pub use classes::LineClass;
 pub use faults::ReadFault;
 pub use kinds::{Kind, RecId};
 pub use map_lines::{MapLine, MapLines};
+pub use rows::Role;

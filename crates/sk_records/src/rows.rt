@@ -1,10 +1,13 @@
 // The lines of a record, by their places in the held text.
 
-/// What a line is in its record: a brace or an entry of a remap list, or any other line.
+/// What a line is in its record. No call takes or gives it: contracts name it.
 #[derive(Clone, Copy)]
-pub(crate) enum Role {
+pub enum Role {
+    /// A line of no remap list.
     Plain,
+    /// The line that opens or shuts a remap list.
     Brace,
+    /// An entry of a remap list.
     Entry,
 }
 
