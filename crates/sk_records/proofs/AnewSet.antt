@@ -1,8 +1,8 @@
 -- Records made anew among the items.
-use Rattle.std.proofs.Common.{◌≡◌, ℕ, ◌+◌, ◌<◌, List, [], ◌∷◌, ◌++◌, length, take, drop, get_or, refl, ap, sym, ◌∙◌, true, false, arith, subst, Vec, Ok, length-append}
+use Rattle.std.proofs.Common.{◌≡◌, ℕ, ◌<◌, List, [], ◌∷◌, ◌++◌, length, take, drop, get_or, refl, ap, sym, ◌∙◌, false, arith, subst, Vec, Ok, length-append}
 use Rattle.std.specs.List.{All}
 use Rattle.std.proofs.lemmas.List.{take_at, drop_at}
-use Rattle.std.proofs.lemmas.List.Elements.{All-nil, All-tail, All-head}
+use Rattle.std.proofs.lemmas.List.Elements.{All-nil}
 use Rattle.sk_text.specs.Lines.{TextLine, lines_in, joined}
 use Rattle.sk_text.proofs.Whole.{lines_joined}
 use Rattle.sk_records.specs.declared.kinds.Kind.{Kind}
@@ -79,8 +79,8 @@ module _ {A : Type 0} (old new : List ℕ) (k : Kind) (lines : List ℕ) (items 
       let B = blocks_at old split.back in
       let none : has k F ≡ false = none_of_kind k F (split.count old) in
       ap (λ (bs : List Block). Loose l ∷ bs) (blocks ∙ ap (λ (bs : List Block). bs ++ (blocks_at new made ++ without k false (blocks_at new (drop at items)))) front_is
-        ∙ ap (λ (bs : List Block). F ++ (bs ++ without k false (blocks_at new (drop at items)))) (given_blocks new k lines made are ag)
-        ∙ ap (λ (bs : List Block). F ++ (with_tails (given_records lines) ++ without k false bs)) back_is)
+      ∙ ap (λ (bs : List Block). F ++ (bs ++ without k false (blocks_at new (drop at items)))) (given_blocks new k lines made are ag)
+      ∙ ap (λ (bs : List Block). F ++ (with_tails (given_records lines) ++ without k false bs)) back_is)
       ∙ sym (anew_at k (given_records lines) (Loose l ∷ F) R B none split.kind)
       ∙ ap (λ (bs : List Block). made_anew k (given_records lines) (Loose l ∷ bs)) (sym (ap (blocks_at old) split.whole ∙ blocks-append old split.front (Held split.held ∷ split.back)))
 

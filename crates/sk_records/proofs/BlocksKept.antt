@@ -152,7 +152,7 @@ blank_class : is_loose (class_of []) ≡ true
 unfolding class_of
 blank_class = refl
 
-are_tails : (rs : List Rec) → AreRecs rs → AreBlocks (with_tails rs)
+pub are_tails : (rs : List Rec) → AreRecs rs → AreBlocks (with_tails rs)
 are_tails [] is = tt
 are_tails (r ∷ rs) is = (is.0, (blank_class, are_tails rs is.1))
 

@@ -25,9 +25,14 @@ pub ended-append : (a b : List TextLine) → AllEnded a → AreLines b → AreLi
 ended-append [] b all is = is
 ended-append (l ∷ a) b all is = are_more l (a ++ b) all.0 (ended-append a b all.1 is)
 
-all-append : (a b : List TextLine) → AllEnded a → AllEnded b → AllEnded (a ++ b)
+pub all-append : (a b : List TextLine) → AllEnded a → AllEnded b → AllEnded (a ++ b)
 all-append [] b all is = is
 all-append (l ∷ a) b all is = (all.0, all-append a b all.1 is)
+
+-- lines with ends are lines
+pub ended_are : (a : List TextLine) → AllEnded a → AreLines a
+ended_are [] all = tt
+ended_are (l ∷ a) all = are_more l a all.0 (ended_are a all.1)
 
 are_left : (a : List TextLine) (l : TextLine) (b : List TextLine) → AreLines (a ++ (l ∷ b)) → AllEnded a
 are_left [] l b is = tt

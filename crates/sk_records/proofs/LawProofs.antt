@@ -1,18 +1,14 @@
 -- What holds of the changes of a text.
-use Rattle.std.proofs.Common.{inl, inr, ◌≡◌, ◌≤◌, ◌^◌, ℕ, List, [], ◌∷◌, map, length, refl, ap, sym, ◌∙◌, true, false, Ok, subst}
-use Rattle.std.specs.Prelude.{nat_le}
+use Rattle.std.proofs.Common.{inl, inr, ◌≡◌, ◌^◌, List, [], ◌∷◌, map, length, refl, ap, sym, false, subst}
 use Rattle.std.proofs.lemmas.Bool.{le-leb}
 use Rattle.sk_text.specs.Lines.{TextLine, lines_in, joined}
 use Rattle.sk_records.specs.declared.kinds.Kind.{Kind}
 use Rattle.sk_records.specs.declared.kinds.Kind.TheVariants.{Group}
-use Rattle.sk_records.specs.Kinds.{same_kind}
-use Rattle.sk_records.specs.Rows.{Row, is_plain_role, with_map}
-use Rattle.sk_records.specs.Blocks.{Block, Rec, has, add_records, made_anew}
+use Rattle.sk_records.specs.Blocks.{Block, has, made_anew}
 use Rattle.sk_records.specs.Classes.{is_opening, is_shut}
-use Rattle.sk_records.specs.Reading.{read_text, read_lines, row_lines}
-use Rattle.sk_records.specs.Written.{IsText, Fit, bytes_of, numbered}
-use Rattle.sk_records.specs.Given.{AllEnded, list_role, list_row, given_list, is_whole_list}
-use Rattle.sk_records.specs.Laws.{RecordsLaw, ValuesLaw, NonePlain, ListsLaw, PassesLaw, AnewLaw, IsGiven, KeepsRows, TextsLaw, NumbersLaw, ReadAgainLaw}
+use Rattle.sk_records.specs.Written.{Fit, bytes_of}
+use Rattle.sk_records.specs.Given.{AllEnded, list_row, given_list}
+use Rattle.sk_records.specs.Laws.{RecordsLaw, ValuesLaw, NonePlain, ListsLaw, PassesLaw, AnewLaw, TextsLaw, NumbersLaw, ReadAgainLaw}
 use Rattle.sk_records.proofs.MadeAnew.{two, anew_twice}
 use Rattle.sk_records.proofs.RecordsAfter.{added_same, added_other, anew_same, anew_other, changed_same, changed_other, mapped_same, mapped_other, dropped_same, dropped_other, mapped_kept}
 use Rattle.sk_records.proofs.ClassOfLine.{key_keyless}

@@ -35,3 +35,4 @@ pub mod RecordGoes
 pub mod Without
 pub mod AnewSet
 pub mod LawProofs
+pub mod GivenWritten

@@ -1,5 +1,5 @@
 -- Changes one after the other are one pass over the records.
-use Rattle.std.proofs.Common.{◌≡◌, inl, inr, ℕ, zero, suc, List, [], ◌∷◌, refl, ap, sym, cond, true, false, Bool}
+use Rattle.std.proofs.Common.{◌≡◌, inl, inr, ℕ, zero, suc, List, [], ◌∷◌, refl, ap, sym, true, false, Bool}
 use Rattle.sk_records.specs.declared.kinds.Kind.{Kind}
 use Rattle.sk_records.specs.Kinds.{same_kind}
 use Rattle.sk_records.specs.Rows.{Row}

@@ -79,7 +79,7 @@ class_closes k body e = elim (two (is_empty body)) [
   ]
 ]
 
-closing_mends : (k : Kind) → ends_in_return (closing_of k) ≡ false
+pub closing_mends : (k : Kind) → ends_in_return (closing_of k) ≡ false
 closing_mends Group = refl
 closing_mends Param = refl
 closing_mends Request = refl
@@ -147,10 +147,10 @@ value_return [] e = refl
 value_return (x ∷ xs) e = e
 
 module _ (k : Kind) (key value : List ℕ) (is_key : IsKey k key) (is_value : IsValue value) where
-  body_clear : NoFeed (value_body key value)
+  pub body_clear : NoFeed (value_body key value)
   body_clear = NoFeed-append key (61 ∷ value) (no_feed key is_key.no_feed) (refl, no_feed value is_value.no_feed)
 
-  body_return : ends_in_return (value_body key value) ≡ false
+  pub body_return : ends_in_return (value_body key value) ≡ false
   body_return = return-append key 61 value ∙ value_return value is_value.no_return
 
   value_end : (body ending : List ℕ) → IsEnd body ending → IsEnd (value_body key value) ending

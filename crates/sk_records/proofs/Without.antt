@@ -1,5 +1,5 @@
 -- What stays of items where the records of a kind go, and their tails.
-use Rattle.std.proofs.Common.{◌≡◌, ◌⊎◌, inl, inr, ℕ, ◌+◌, ◌-◌, ◌<◌, List, [], ◌∷◌, ◌++◌, map, length, take, drop, get_or, refl, ap, sym, ◌∙◌, append_assoc, cond, true, false, Bool, arith, subst, Option, Some, None}
+use Rattle.std.proofs.Common.{◌≡◌, inl, inr, ℕ, ◌-◌, List, [], ◌∷◌, ◌++◌, map, length, take, drop, refl, ap, sym, ◌∙◌, append_assoc, cond, true, false, Bool, arith, subst, Some, None}
 use Rattle.std.specs.List.{All}
 use Rattle.std.proofs.lemmas.List.{append-nil, take-append-drop}
 use Rattle.std.proofs.lemmas.List.Elements.{All-nil, All-push, All-append}
@@ -7,7 +7,6 @@ use Rattle.sk_text.specs.Lines.{TextLine, lines_in, is_empty}
 use Rattle.sk_records.specs.declared.kinds.Kind.{Kind}
 use Rattle.sk_records.specs.declared.items.Item.{Item}
 use Rattle.sk_records.specs.declared.items.Item.TheVariants.{Gone, Lines, Held}
-use Rattle.sk_records.specs.Kinds.{same_kind}
 use Rattle.sk_records.specs.Blocks.{Block, Loose, Record, without, tail_len}
 use Rattle.sk_records.specs.Held.{bytes_at, rec_at, item_blocks, blocks_at, ItemWithin}
 use Rattle.sk_records.specs.Places.{holds}
@@ -15,7 +14,7 @@ use Rattle.sk_records.specs.Removed.{shrunk, or_else, is_gone}
 use Rattle.sk_records.specs.Copied.{IsCopy, AreCopies}
 use Rattle.sk_records.specs.Anew.{is_after, cut_after, IsLeft, IsPushed, StaysSoFar}
 use Rattle.sk_records.proofs.MadeAnew.{two}
-use Rattle.sk_records.proofs.HeldLines.{blocks-append, length_bytes, all_left, all_right}
+use Rattle.sk_records.proofs.HeldLines.{blocks-append, length_bytes, all_left}
 use Rattle.sk_records.proofs.Blank.{first_line, item_shrunk, shrunk_within}
 use Rattle.sk_records.proofs.CopyLemmas.{gone_none}
 

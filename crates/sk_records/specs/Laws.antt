@@ -1,15 +1,15 @@
 -- What holds of the changes of a text, whatever the text.
-use Rattle.std.specs.Prelude.{◌≡◌, ◌≤◌, ◌^◌, ℕ, zero, suc, List, [], ◌∷◌, ◌++◌, map, Option, Some, None, Bool, true, false, if◌then◌else◌, Ok, length}
+use Rattle.std.specs.Prelude.{◌≡◌, ◌≤◌, ◌^◌, ℕ, zero, suc, List, [], ◌∷◌, ◌++◌, map, Some, None, Bool, true, false, if◌then◌else◌, Ok, length}
 use Rattle.std.specs.Str.{bytes_eq}
 use Rattle.sk_text.specs.Lines.{lines_in}
 use Rattle.sk_text.specs.Keys.{parts_at_equals}
 use Rattle.sk_records.specs.declared.kinds.Kind.{Kind}
 use Rattle.sk_records.specs.declared.kinds.Kind.TheVariants.{Group}
-use Rattle.sk_records.specs.Kinds.{same_kind}
-use Rattle.sk_records.specs.Rows.{Row, last_value, with_value, is_plain, entries, with_map}
-use Rattle.sk_records.specs.Blocks.{Block, Rec, Record, AllOf, rows_of, changed_at, removed_at, records, has, add_records, made_anew, on_record, on_records, dropped}
+use Rattle.sk_records.specs.Kinds.{same_kind, closing_of}
+use Rattle.sk_records.specs.Rows.{Row, Plain, added_row, value_body, last_value, with_value, is_plain, entries, with_map}
+use Rattle.sk_records.specs.Blocks.{Block, Rec, Record, AllOf, with_tails, rows_of, changed_at, removed_at, records, has, add_records, made_anew, on_record, on_records, dropped}
 use Rattle.sk_records.specs.Reading.{read_text, row_lines, block_lines}
-use Rattle.sk_records.specs.Written.{IsBlock, IsText, Opened, lines_of, bytes_of, numbered, bare_rows, bare}
+use Rattle.sk_records.specs.Written.{IsBlock, IsText, Opened, lines_of, bytes_of, numbered, bare_rows, bare_rec, bare}
 use Rattle.sk_records.specs.Given.{IsKey, IsValue, AllEnded, IsOneRecord, AreRecords, given_list, given_records, is_whole_list}
 
 -- ---- the records of each kind after a change
@@ -134,3 +134,27 @@ pub record NumbersLaw : Type 0 where
 -- What is written of a text is read again as the same blocks, numbered anew from 1.
 abbrev pub ReadAgainLaw : Type 0
 ReadAgainLaw = (bs : List Block) → IsText bs → length (bytes_of bs) ≤ 2 ^ 26 → read_text (bytes_of bs) ≡ Ok (numbered 1 bs)
+
+-- ---- given lines
+
+-- a line `key=value`, as a call adds it
+abbrev pub value_row : List ℕ × List ℕ → Row
+value_row p = added_row Plain (value_body p.0 p.1)
+
+-- a record of lines `key=value`, each ended by a line feed
+abbrev pub plain_record : Kind → List (List ℕ × List ℕ) → Rec
+plain_record k pairs = record { kind = k; rows = map value_row pairs; close = record { body = closing_of k; ending = 10 ∷ [] } }
+
+abbrev pub ArePairs : Kind → List (List ℕ × List ℕ) → Type 0
+ArePairs k [] = Unit {0}
+ArePairs k (p ∷ ps) = (IsKey k p.0 × IsValue p.1) × ArePairs k ps
+
+-- The bytes of whole records are lines that may be given; they give these records, without numbers. A record of lines
+-- `key=value` is a whole record.
+pub record GivenLaw : Type 0 where
+  pub one : (k : Kind) (r : Rec) → IsGiven k (r ∷ []) → IsOneRecord k (bytes_of (Record r ∷ []))
+  pub one_is : (k : Kind) (r : Rec) → IsGiven k (r ∷ []) → given_records (bytes_of (Record r ∷ [])) ≡ bare_rec r ∷ []
+  pub many : (k : Kind) (rs : List Rec) → IsGiven k rs → AreRecords k (bytes_of (with_tails rs))
+  pub many_are : (k : Kind) (rs : List Rec) → IsGiven k rs → given_records (bytes_of (with_tails rs)) ≡ map bare_rec rs
+  pub plain : (k : Kind) (p : List ℕ × List ℕ) (ps : List (List ℕ × List ℕ)) (rs : List Rec) → ArePairs k (p ∷ ps) → IsGiven k rs → IsGiven k (plain_record k (p ∷ ps) ∷ rs)
+  pub plain_bare : (k : Kind) (ps : List (List ℕ × List ℕ)) → bare_rec (plain_record k ps) ≡ plain_record k ps

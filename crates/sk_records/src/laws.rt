@@ -1,7 +1,7 @@
 //! What holds of the changes of a text, whatever the text.
 //!
 //! The functions do nothing when they run: the contract of each is a law.
-ghost use Rattle.sk_records.specs.Laws.{RecordsLaw, ValuesLaw, ListsLaw, PassesLaw, AnewLaw, TextsLaw, NumbersLaw, ReadAgainLaw};
+ghost use Rattle.sk_records.specs.Laws.{RecordsLaw, ValuesLaw, ListsLaw, PassesLaw, AnewLaw, TextsLaw, NumbersLaw, ReadAgainLaw, GivenLaw};
 
 /// What the records of each kind are after a change.
 pub fn law_records()
@@ -41,4 +41,9 @@ pub fn law_numbers()
 /// What is written is read again as the same blocks, numbered anew.
 pub fn law_read_again()
     ensures { ReadAgainLaw }
+{}
+
+/// What is written of whole records may be given to the calls that add records, and gives these records.
+pub fn law_given()
+    ensures { GivenLaw }
 {}

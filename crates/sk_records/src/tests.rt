@@ -295,16 +295,28 @@ fn apply(book: &mut Book, change: Change) -> Result<(), AllocError> {
 }
 
 const HEAD: &[u8] = b"\xB1\xB2\xB3SolveSpaceREVa\n";
+
 const GROUP: &[u8] = b"Group.h.v=00000001\nAddGroup\n";
+
 const GROUP_UNENDED: &[u8] = b"Group.h.v=00000001\nAddGroup";
+
 const LISTS_HEAD: &[u8] = b"Group.h.v=00000001\n";
-const LISTS: &[u8] = b"Group.remap={\n    1 00040000 0\n}\nGroup.type=1\nGroup.remap={\n}\nAddGroup\n";
+
+const LISTS: &[u8] =
+    b"Group.remap={\n    1 00040000 0\n}\nGroup.type=1\nGroup.remap={\n}\nAddGroup\n";
+
 const ONE_LIST: &[u8] = b"Group.remap={\n    9 00090000 1\n}\nGroup.type=1\nAddGroup\n";
+
 const REQUEST: &[u8] = b"Request.h.v=00000005\nAddRequest\n";
+
 const NEW_REQUEST: &[u8] = b"Request.h.v=00000009\nAddRequest\n";
+
 const ENTITY: &[u8] = b"Entity.h.v=00000001\nAddEntity\n";
+
 const NEW_ENTITY: &[u8] = b"Entity.h.v=00000009\nAddEntity\n";
+
 const STYLE: &[u8] = b"Style.h.v=00000001\nAddStyle\n";
+
 const BLANK: &[u8] = b"\n";
 
 fn joined(alloc: Global, parts: &[&[u8]]) -> Result<Vec<u8>, AllocError> {
@@ -357,7 +369,9 @@ fn records_go_and_come_where_the_text_then_stands(rt: HostRuntime) -> Result<(),
         ),
         (
             "entity records in two places",
-            &[HEAD, GROUP, ENTITY, BLANK, STYLE, ENTITY, ENTITY, BLANK, BLANK],
+            &[
+                HEAD, GROUP, ENTITY, BLANK, STYLE, ENTITY, ENTITY, BLANK, BLANK,
+            ],
             &[Change::SetEntity],
             &[HEAD, GROUP, NEW_ENTITY, BLANK, STYLE, BLANK],
         ),
@@ -387,9 +401,16 @@ fn records_go_and_come_where_the_text_then_stands(rt: HostRuntime) -> Result<(),
         ),
         (
             "carriage returns",
-            &[b"\xB1\xB2\xB3SolveSpaceREVa\r\nRequest.h.v=1\r\nAddRequest\r\n\r\nConstraint.valA=5\r\nAddConstraint\r\n"],
+            &[
+                b"\xB1\xB2\xB3SolveSpaceREVa\r\nRequest.h.v=1\r\nAddRequest\r\n\r\nConstraint.valA=5\r\nAddConstraint\r\n",
+            ],
             &[Change::SetDistance, Change::DropRequest, Change::SetEntity],
-            &[b"\xB1\xB2\xB3SolveSpaceREVa\r\n", NEW_ENTITY, BLANK, b"Constraint.valA=6\r\nAddConstraint\r\n"],
+            &[
+                b"\xB1\xB2\xB3SolveSpaceREVa\r\n",
+                NEW_ENTITY,
+                BLANK,
+                b"Constraint.valA=6\r\nAddConstraint\r\n",
+            ],
         ),
     ];
     for (name, before, changes, after) in rows {

@@ -2,7 +2,7 @@ use Rattle.std.proofs.Common.{sym, ◌∙◌}
 use Rattle.std.proofs.lemmas.Result.{IfOk-weaker}
 use Rattle.sk_records.specs.Copied.{IsCopy}
 use Rattle.sk_records.specs.Anew.{IsLeft}
-use Rattle.sk_records.proofs.Without.{left_gone, left_cut, left_copy}
+use Rattle.sk_records.proofs.Without.{left_cut, left_copy}
 use Rattle.sk_records.proofs.anew.left_of.Goals as goal
 
 pub returns-in-Some : goal.returns-in-Some

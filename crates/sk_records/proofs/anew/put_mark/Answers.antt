@@ -1,6 +1,4 @@
-use Rattle.std.proofs.Common.{◌≡◌, refl}
 use Rattle.std.proofs.lemmas.Result.{on_ok_weaker}
-use Rattle.sk_records.proofs.Growth.{grown_then}
 use Rattle.sk_records.proofs.RecordGoes.{ready_book}
 use Rattle.sk_records.proofs.AnewSet.{mark_new, marked}
 use Rattle.sk_records.proofs.anew.put_mark.Goals as goal

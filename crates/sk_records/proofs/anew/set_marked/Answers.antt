@@ -1,6 +1,4 @@
-use Rattle.std.proofs.Common.{◌≡◌, refl}
-use Rattle.sk_records.specs.BookHeld.{IsHeld}
-use Rattle.sk_records.specs.Copied.{AreCopies}
+use Rattle.std.proofs.Common.{refl}
 use Rattle.sk_records.proofs.RoomMade.{on_err_any}
 use Rattle.sk_records.proofs.Growth.{grown_then}
 use Rattle.sk_records.proofs.RecordGoes.{kept}

@@ -1,4 +1,3 @@
-use Rattle.std.proofs.Common.{◌≡◌, ap, ◌∙◌}
 use Rattle.sk_records.specs.declared.kinds.Kind.TheVariants.{Entity}
 use Rattle.sk_records.proofs.BookChanged.{either_way}
 use Rattle.sk_records.proofs.RecordGoes.{kept_book}
