@@ -339,81 +339,90 @@ fn changed(alloc: Global, parts: &[&[u8]], changes: &[Change]) -> Result<Vec<u8>
     bytes(alloc, &book)
 }
 
+// Its name, a text, the changes that are made, and the text that is then written.
+type Case = (
+    &'static str,
+    &'static [&'static [u8]],
+    &'static [Change],
+    &'static [&'static [u8]],
+);
+
+const CASES: [Case; 10] = [
+    (
+        "added where the last went before two empty lines",
+        &[HEAD, REQUEST, REQUEST, BLANK, BLANK, STYLE],
+        &[Change::DropRequest, Change::AddRequest],
+        &[HEAD, REQUEST, BLANK, NEW_REQUEST, BLANK, STYLE],
+    ),
+    (
+        "added where all of the kind went",
+        &[HEAD, GROUP, BLANK, STYLE, REQUEST],
+        &[Change::DropRequest, Change::AddRequest],
+        &[HEAD, GROUP, BLANK, NEW_REQUEST, BLANK, STYLE],
+    ),
+    (
+        "added behind the header",
+        &[HEAD, BLANK, STYLE],
+        &[Change::AddRequest],
+        &[HEAD, NEW_REQUEST, BLANK, BLANK, STYLE],
+    ),
+    (
+        "added behind a line without an end",
+        &[HEAD, GROUP_UNENDED],
+        &[Change::AddRequest],
+        &[HEAD, GROUP, NEW_REQUEST, BLANK],
+    ),
+    (
+        "entity records in two places",
+        &[
+            HEAD, GROUP, ENTITY, BLANK, STYLE, ENTITY, ENTITY, BLANK, BLANK,
+        ],
+        &[Change::SetEntity],
+        &[HEAD, GROUP, NEW_ENTITY, BLANK, STYLE, BLANK],
+    ),
+    (
+        "entity records twice",
+        &[HEAD, ENTITY, STYLE],
+        &[Change::SetEntity, Change::SetEntity],
+        &[HEAD, NEW_ENTITY, BLANK, STYLE],
+    ),
+    (
+        "no entity record",
+        &[HEAD, GROUP, BLANK, STYLE],
+        &[Change::SetEntity],
+        &[HEAD, GROUP, BLANK, NEW_ENTITY, BLANK, STYLE],
+    ),
+    (
+        "no entity record, behind a line without an end",
+        &[HEAD, STYLE, GROUP_UNENDED],
+        &[Change::SetEntity, Change::AddRequest],
+        &[HEAD, STYLE, GROUP, NEW_REQUEST, BLANK, NEW_ENTITY, BLANK],
+    ),
+    (
+        "two remap lists",
+        &[HEAD, LISTS_HEAD, LISTS, STYLE],
+        &[Change::SetRemap],
+        &[HEAD, LISTS_HEAD, ONE_LIST, STYLE],
+    ),
+    (
+        "carriage returns",
+        &[
+            b"\xB1\xB2\xB3SolveSpaceREVa\r\nRequest.h.v=1\r\nAddRequest\r\n\r\nConstraint.valA=5\r\nAddConstraint\r\n",
+        ],
+        &[Change::SetDistance, Change::DropRequest, Change::SetEntity],
+        &[
+            b"\xB1\xB2\xB3SolveSpaceREVa\r\n",
+            NEW_ENTITY,
+            BLANK,
+            b"Constraint.valA=6\r\nAddConstraint\r\n",
+        ],
+    ),
+];
+
 #[test]
 fn records_go_and_come_where_the_text_then_stands(rt: HostRuntime) -> Result<(), Fail> {
     let alloc = rt.alloc();
-    let rows: [(&str, &[&[u8]], &[Change], &[&[u8]]); 10] = [
-        (
-            "added where the last went before two empty lines",
-            &[HEAD, REQUEST, REQUEST, BLANK, BLANK, STYLE],
-            &[Change::DropRequest, Change::AddRequest],
-            &[HEAD, REQUEST, BLANK, NEW_REQUEST, BLANK, STYLE],
-        ),
-        (
-            "added where all of the kind went",
-            &[HEAD, GROUP, BLANK, STYLE, REQUEST],
-            &[Change::DropRequest, Change::AddRequest],
-            &[HEAD, GROUP, BLANK, NEW_REQUEST, BLANK, STYLE],
-        ),
-        (
-            "added behind the header",
-            &[HEAD, BLANK, STYLE],
-            &[Change::AddRequest],
-            &[HEAD, NEW_REQUEST, BLANK, BLANK, STYLE],
-        ),
-        (
-            "added behind a line without an end",
-            &[HEAD, GROUP_UNENDED],
-            &[Change::AddRequest],
-            &[HEAD, GROUP, NEW_REQUEST, BLANK],
-        ),
-        (
-            "entity records in two places",
-            &[
-                HEAD, GROUP, ENTITY, BLANK, STYLE, ENTITY, ENTITY, BLANK, BLANK,
-            ],
-            &[Change::SetEntity],
-            &[HEAD, GROUP, NEW_ENTITY, BLANK, STYLE, BLANK],
-        ),
-        (
-            "entity records twice",
-            &[HEAD, ENTITY, STYLE],
-            &[Change::SetEntity, Change::SetEntity],
-            &[HEAD, NEW_ENTITY, BLANK, STYLE],
-        ),
-        (
-            "no entity record",
-            &[HEAD, GROUP, BLANK, STYLE],
-            &[Change::SetEntity],
-            &[HEAD, GROUP, BLANK, NEW_ENTITY, BLANK, STYLE],
-        ),
-        (
-            "no entity record, behind a line without an end",
-            &[HEAD, STYLE, GROUP_UNENDED],
-            &[Change::SetEntity, Change::AddRequest],
-            &[HEAD, STYLE, GROUP, NEW_REQUEST, BLANK, NEW_ENTITY, BLANK],
-        ),
-        (
-            "two remap lists",
-            &[HEAD, LISTS_HEAD, LISTS, STYLE],
-            &[Change::SetRemap],
-            &[HEAD, LISTS_HEAD, ONE_LIST, STYLE],
-        ),
-        (
-            "carriage returns",
-            &[
-                b"\xB1\xB2\xB3SolveSpaceREVa\r\nRequest.h.v=1\r\nAddRequest\r\n\r\nConstraint.valA=5\r\nAddConstraint\r\n",
-            ],
-            &[Change::SetDistance, Change::DropRequest, Change::SetEntity],
-            &[
-                b"\xB1\xB2\xB3SolveSpaceREVa\r\n",
-                NEW_ENTITY,
-                BLANK,
-                b"Constraint.valA=6\r\nAddConstraint\r\n",
-            ],
-        ),
-    ];
-    for (name, before, changes, after) in rows {
+    for (name, before, changes, after) in CASES {
         assert!(rt;
             changed(alloc, before, changes)? == joined(alloc, after)?,
             "{name}"
