@@ -149,6 +149,41 @@ fn a_text_that_is_cut_has_the_fault_of_what_is_open(rt: HostRuntime) -> Result<(
 }
 
 #[test]
+fn a_line_that_is_cut_is_bad_or_a_shorter_value(rt: HostRuntime) -> Result<(), Fail> {
+    let alloc = rt.alloc();
+    let mut before = Vec::new(alloc);
+    let mut number = 0u32;
+    for line in MODEL {
+        number = number.wrapping_add(1);
+        let first = match number {
+            4..=9 => 4,
+            11..=13 => 11,
+            15..=17 => 15,
+            _ => 19,
+        };
+        for size in 1..line.len() {
+            let cut = &line[..size];
+            let want = if number == 1 {
+                ReadFault::BadHeader
+            } else if cut.contains(&b'=') {
+                ReadFault::OpenRecord(first)
+            } else {
+                ReadFault::BadLine(number)
+            };
+            let mut text = Vec::from_slice(alloc, &before)?;
+            text.extend_from_slice(cut)?;
+            assert!(rt;
+                fault_of(alloc, &text)? == Some(want),
+                "line {number}, {size} bytes"
+            );
+        }
+        before.extend_from_slice(line)?;
+        before.push(b'\n')?;
+    }
+    Ok(())
+}
+
+#[test]
 fn a_text_past_the_limit_is_too_large(rt: HostRuntime) -> Result<(), Fail> {
     let alloc = rt.alloc();
     let mut text = whole(alloc)?;
