@@ -3,3 +3,17 @@ pub mod Steps
 pub mod RemapSteps
 pub mod Parts
 pub mod Lookups
+pub mod Lifted
+pub mod Alike
+pub mod AllOf
+pub mod Renumbered
+pub mod TypedParts
+pub mod ParamSet
+pub mod RemapSet
+pub mod Digits
+pub mod CleanTexts
+pub mod ParamTexts
+pub mod ListTexts
+pub mod Places
+pub mod ModelSet
+pub mod ParamsFit

@@ -10,3 +10,5 @@ pub mod Constraints
 pub mod Typed
 pub mod Listings
 pub mod Models
+pub mod Changes
+pub mod WrittenLines

@@ -1,7 +1,9 @@
 //! The typed model of a book: its groups, parameters, requests and constraints, or the first fault.
 #![tactic(auto)]
 
+mod changes;
 mod constraints;
+mod copying;
 mod faults;
 mod fields;
 mod group_keys;
@@ -13,6 +15,7 @@ mod params;
 mod remap;
 mod requests;
 mod whole;
+mod writing;
 
 pub use faults::{ModelFault, Reason, What};
 pub use model::Model;

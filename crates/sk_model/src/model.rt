@@ -1,20 +1,25 @@
 // Models: a book with its typed lists.
 
-ghost use Rattle.std.specs.Prelude.{◌≡◌, ◌++◌, OnOk, OnErr, IfOk};
+ghost use Rattle.std.specs.Prelude.{◌≡◌, ◌≢◌, ◌++◌, ◌==◌, ℕ, OnOk, OnErr, IfOk, Ok, Some, if◌then◌else◌, map, true};
 ghost use Rattle.std.specs.Option.{option_copied};
 ghost use Rattle.sk_num.specs.Scale.{IsScale};
 ghost use Rattle.sk_records.specs.Written.{bytes_of};
-ghost use Rattle.sk_model.specs.Chain.{IsAnswer};
-ghost use Rattle.sk_model.specs.Typed.{typed};
+ghost use Rattle.sk_records.specs.Written.{numbered};
+ghost use Rattle.sk_model.specs.Chain.{IsAnswer, seen_in};
+ghost use Rattle.sk_model.specs.Remap.{remap_of};
+ghost use Rattle.sk_model.specs.Typed.{typed, group_handle};
+ghost use Rattle.sk_model.specs.Changes.{param_set, with_param, remap_set, with_remap, numbers_of};
 ghost use Rattle.sk_model.specs.Models.{lists_of, IsTyped, value_of};
 
+use crate::changes::{put_param, set_list};
+use crate::copying::copy_groups;
 use crate::faults::ModelFault;
 use crate::listed::{Listed, constraints_of, groups_of, params_of, requests_of};
 use crate::whole::whole_fault;
 use indexmap::IndexSet;
 use sk_num::Grid;
 use sk_records::Book;
-use sk_types::{Constraint, Group, ParamId, ParamValue, Request};
+use sk_types::{Constraint, Group, GroupId, ParamId, ParamValue, RemapEntry, Request};
 use std::alloc::{AllocError, Global};
 
 /// The typed model of a book.
@@ -127,6 +132,64 @@ impl<const S: u32> Model<S> {
     {
         let place = self.param_handles.get_index_of(&p.0)?;
         Some(self.params[place].value)
+    }
+
+    /// An equal model.
+    pub fn copy(&self, alloc: Global) -> Result<Model<S>, AllocError>
+        ensures { IfOk result (λ m. m ≡ self.now) }
+    {
+        Ok(Model {
+            book: self.book.copy(alloc)?,
+            groups: copy_groups(alloc, &self.groups)?,
+            group_handles: self.group_handles.clone()?,
+            params: Vec::from_slice(alloc, &self.params)?,
+            param_handles: self.param_handles.clone()?,
+            requests: Vec::from_slice(alloc, &self.requests)?,
+            constraints: Vec::from_slice(alloc, &self.constraints)?,
+        })
+    }
+
+    /// Sets the value of a parameter: in its record, or in a new one where it has none. Where it has the value
+    /// already, no byte changes. At an `Err` the model is as it was.
+    ///
+    /// The value is written with 20 decimals, as `quantity_text` gives it.
+    pub fn set_param(&mut self, p: ParamId, v: Grid<S>) -> Result<(), AllocError>
+        requires scale { IsScale S }
+        requires some { p.0 ≢ 0 }
+        ensures blocks { OnOk result (self.new.blocks ≡ param_set p.0 v.entry self.old.lists.params self.old.blocks) }
+        ensures lists { OnOk result (self.new.lists ≡ record self.old.lists { params = with_param p.0 v.entry self.old.lists.params }) }
+        ensures values { OnOk result ((q : ℕ) → value_of q self.new.lists.params ≡ (if q == p.0 then Some v.entry else value_of q self.old.lists.params)) }
+        ensures err { OnErr result (self.new ≡ self.old) }
+    {
+        put_param(
+            &mut self.book,
+            &mut self.params,
+            &mut self.param_handles,
+            p.0,
+            v,
+        )
+    }
+
+    /// Sets the remap list of a group: in the place of the first list of its record, whose further lists go. At an
+    /// `Err` the model is as it was.
+    pub fn set_remap(&mut self, g: GroupId, list: &[RemapEntry]) -> Result<(), AllocError>
+        requires scale { IsScale S }
+        requires exists { seen_in g.0 (map group_handle self.old.lists.groups) ≡ true }
+        requires list { remap_of g.0 (map numbers_of list.now) ≡ Ok list.now }
+        ensures blocks { OnOk result (self.new.blocks ≡ remap_set g.0 list.now self.old.lists.groups self.old.blocks) }
+        ensures lists { OnOk result (self.new.lists ≡ record self.old.lists { groups = with_remap g.0 list.now self.old.lists.groups }) }
+        ensures err { OnErr result (self.new ≡ self.old) }
+    {
+        let place = self.group_handles.get_index_of(&g.0).unwrap();
+        set_list(&mut self.book, &mut self.groups, place, g.0, list)
+    }
+
+    /// What is written is typed again as the same model: the lines then have other numbers, which show in
+    /// `NumberAt` alone.
+    pub fn law_typed_again(&self)
+        ensures { typed S (numbered 1 self.now.blocks) ≡ Ok self.now.lists }
+    {
+        let _book = &self.book;
     }
 
     /// Appends the text. At an `Err` nothing is appended.

@@ -1,0 +1,87 @@
+// The lines that changes write.
+
+ghost use Rattle.std.specs.Prelude.{◌≡◌, ◌++◌, OnOk, IfOk};
+ghost use Rattle.std.specs.Fmt.{decimal};
+ghost use Rattle.sk_num.specs.Scale.{IsScale};
+ghost use Rattle.sk_text.specs.Lines.{line_bytes};
+ghost use Rattle.sk_records.specs.Rows.{value_body};
+ghost use Rattle.sk_model.specs.Keys.{key_bytes};
+ghost use Rattle.sk_model.specs.Changes.{fed_line, entry_text};
+ghost use Rattle.sk_model.specs.WrittenLines.{IsParamText, IsEntryText, IsListText};
+
+use crate::keys::Key;
+use sk_num::{Grid, handle_text, quantity_text};
+use sk_types::RemapEntry;
+use std::alloc::{AllocError, Global};
+
+// Appends a value line.
+fn push_value(out: &mut Vec<u8>, key: Key, value: &[u8]) -> Result<(), AllocError>
+    ensures { OnOk result (out.new.items ≡ out.old.items ++ line_bytes (fed_line (value_body (key_bytes key) value.now))) }
+{
+    out.extend_from_slice(key.bytes())?;
+    out.push(b'=')?;
+    out.extend_from_slice(value)?;
+    out.push(b'\n')?;
+    Ok(())
+}
+
+/// The record that is added for a parameter.
+pub(crate) fn param_text<const S: u32>(
+    alloc: Global,
+    id: u32,
+    value: Grid<S>,
+) -> Result<Vec<u8>, AllocError>
+    requires { IsScale S }
+    ensures { IfOk result (λ lines. IsParamText S id value.entry lines.items) }
+{
+    let mut lines = Vec::new(alloc);
+    push_value(&mut lines, Key::ParamHandle, &handle_text(id))?;
+    let text = quantity_text(value);
+    push_value(
+        &mut lines,
+        Key::ParamValue,
+        &text.bytes[..usize::from(text.len)],
+    )?;
+    lines.extend_from_slice(b"AddParam\n")?;
+    Ok(lines)
+}
+
+// Appends a number in decimal.
+fn push_decimal(out: &mut Vec<u8>, n: u16) -> Result<(), AllocError>
+    ensures { OnOk result (out.new.items ≡ out.old.items ++ decimal n) }
+{
+    if n < 10 {
+        out.push(b'0' + n as u8)?;
+        return Ok(());
+    }
+    push_decimal(out, n / 10)?;
+    out.push(b'0' + (n % 10) as u8)?;
+    Ok(())
+}
+
+// Appends the line of an entry: its number, the entity that is copied, and which copy of it.
+fn push_entry(out: &mut Vec<u8>, number: u16, source: u32, copy: u16) -> Result<(), AllocError>
+    ensures line { OnOk result (out.new.items ≡ out.old.items ++ line_bytes (fed_line (entry_text (record { number = number; source = record { 0 = source }; copy = copy })))) }
+    ensures form { OnOk result (IsEntryText (record { number = number; source = record { 0 = source }; copy = copy })) }
+{
+    out.extend_from_slice(b"    ")?;
+    push_decimal(out, number)?;
+    out.push(b' ')?;
+    out.extend_from_slice(&handle_text(source))?;
+    out.push(b' ')?;
+    push_decimal(out, copy)?;
+    out.push(b'\n')?;
+    Ok(())
+}
+
+/// A remap list, whole.
+pub(crate) fn list_text(alloc: Global, list: &[RemapEntry]) -> Result<Vec<u8>, AllocError>
+    ensures { IfOk result (λ lines. IsListText list.now lines.items) }
+{
+    let mut lines = Vec::from_slice(alloc, b"Group.remap={\n")?;
+    for entry in list {
+        push_entry(&mut lines, entry.number, entry.source.0, entry.copy)?;
+    }
+    lines.extend_from_slice(b"}\n")?;
+    Ok(lines)
+}
