@@ -1,0 +1,7 @@
+pub mod Order
+pub mod Lookups
+pub mod Sizes
+pub mod Outlines
+pub mod Known
+pub mod Counts
+pub mod Examples
