@@ -14,40 +14,40 @@ use Rattle.sk_app.specs.Answer.{Reply, Broke, NoFile, Gave, Fault, BadWords, Bad
 use Rattle.sk_app.specs.Ends.{code_of, status_code, IsModelReply, RunsTo, reply_in, work_in, joined, IsComplete}
 
 -- the work of a command, over a reply
-abbrev pub work_by : Option Command → Reply → Result Certified Fault
+abbrev pub work_by : Option Command → Reply → Result (List Certified) Fault
 work_by o reply = then_of (commanded o) (λ command. then_of (file_of (model_name command) reply) (λ text. with_err BadModel (report_of text)))
 
 -- ---- what a status says of the work
 
-pub done_work : (w : Result Certified Fault) → Done ≡ (answered w).status → (c : Certified) × (w ≡ Ok c)
+pub done_work : (w : Result (List Certified) Fault) → Done ≡ (answered w).status → (groups : List Certified) × (w ≡ Ok groups)
 done_work (Ok c) e = (c, refl)
 done_work (Err BadWords) e = absurd (cc)
 done_work (Err (BadModel r)) e = absurd (cc)
 done_work (Err (NoModel name)) e = absurd (cc)
 done_work (Err (UnreadModel name)) e = absurd (cc)
 
-pub words_work : (w : Result Certified Fault) → Words ≡ (answered w).status → w ≡ Err BadWords
+pub words_work : (w : Result (List Certified) Fault) → Words ≡ (answered w).status → w ≡ Err BadWords
 words_work (Ok c) e = absurd (cc)
 words_work (Err BadWords) e = refl
 words_work (Err (BadModel r)) e = absurd (cc)
 words_work (Err (NoModel name)) e = absurd (cc)
 words_work (Err (UnreadModel name)) e = absurd (cc)
 
-pub model_work : (w : Result Certified Fault) → Model ≡ (answered w).status → (r : Refusal) × (w ≡ Err (BadModel r))
+pub model_work : (w : Result (List Certified) Fault) → Model ≡ (answered w).status → (r : Refusal) × (w ≡ Err (BadModel r))
 model_work (Ok c) e = absurd (cc)
 model_work (Err BadWords) e = absurd (cc)
 model_work (Err (BadModel r)) e = (r, refl)
 model_work (Err (NoModel name)) e = absurd (cc)
 model_work (Err (UnreadModel name)) e = absurd (cc)
 
-pub absent_work : (w : Result Certified Fault) → Absent ≡ (answered w).status → (name : List ℕ) × (w ≡ Err (NoModel name))
+pub absent_work : (w : Result (List Certified) Fault) → Absent ≡ (answered w).status → (name : List ℕ) × (w ≡ Err (NoModel name))
 absent_work (Ok c) e = absurd (cc)
 absent_work (Err BadWords) e = absurd (cc)
 absent_work (Err (BadModel r)) e = absurd (cc)
 absent_work (Err (NoModel name)) e = (name, refl)
 absent_work (Err (UnreadModel name)) e = absurd (cc)
 
-pub unread_work : (w : Result Certified Fault) → Unread ≡ (answered w).status → (name : List ℕ) × (w ≡ Err (UnreadModel name))
+pub unread_work : (w : Result (List Certified) Fault) → Unread ≡ (answered w).status → (name : List ℕ) × (w ≡ Err (UnreadModel name))
 unread_work (Ok c) e = absurd (cc)
 unread_work (Err BadWords) e = absurd (cc)
 unread_work (Err (BadModel r)) e = absurd (cc)
@@ -56,11 +56,11 @@ unread_work (Err (UnreadModel name)) e = (name, refl)
 
 -- ---- what the work says of the reply
 
-no_words : (x : Result Certified Refusal) → with_err BadModel x ≡ Err BadWords → ⊥
+no_words : (x : Result (List Certified) Refusal) → with_err BadModel x ≡ Err BadWords → ⊥
 no_words (Ok c) e = (cc)
 no_words (Err r) e = (cc)
 
-not_unread : (x : Result Certified Refusal) (name : List ℕ) → with_err BadModel x ≡ Err (UnreadModel name) → ⊥
+not_unread : (x : Result (List Certified) Refusal) (name : List ℕ) → with_err BadModel x ≡ Err (UnreadModel name) → ⊥
 not_unread (Ok c) name e = (cc)
 not_unread (Err r) name e = (cc)
 
@@ -115,12 +115,12 @@ run_full s words told fr x z sr end run e = subst (λ (f : End). RunsTo words to
 pub full_work : (s : Status) (words : List (List ℕ)) (files : Files) (fr : Type 0) (x z : Option (List ℕ)) (sr : Type 0) → RunsTo words (Some files) fr x z sr (Full s)
     → ((s ≡ (answered (work_in files words)).status) × Takes x z (joined (answered (work_in files words)).pieces)) ⊎ (fr × (s ≡ Unread))
 full_work s words files fr x z sr run = elim (work_told words files fr run.reply run.given) [
-  | inl same ↦ inl (subst (λ (w : Result Certified Fault). (s ≡ (answered w).status) × Takes x z (joined (answered w).pieces)) same run.ends)
-  | inr b ↦ inr (b.0, run.ends.0 ∙ ap (λ (w : Result Certified Fault). (answered w).status) b.1.1)
+  | inl same ↦ inl (subst (λ (w : Result (List Certified) Fault). (s ≡ (answered w).status) × Takes x z (joined (answered w).pieces)) same run.ends)
+  | inr b ↦ inr (b.0, run.ends.0 ∙ ap (λ (w : Result (List Certified) Fault). (answered w).status) b.1.1)
 ]
 
 pub done_cause : (words : List (List ℕ)) (told : Option Files) (fr : Type 0) (x z : Option (List ℕ)) (sr : Type 0) (end : End)
-    → RunsTo words told fr x z sr end → code_of end ≡ 0 → OnTold told (λ files. (c : Certified) × (work_in files words ≡ Ok c))
+    → RunsTo words told fr x z sr end → code_of end ≡ 0 → OnTold told (λ files. (groups : List Certified) × (work_in files words ≡ Ok groups))
 done_cause words None fr x z sr end run e = tt
 done_cause words (Some files) fr x z sr end run e = elim (full_work Done words files fr x z sr (run_full Done words (Some files) fr x z sr end run e)) [
   | inl w ↦ done_work (work_in files words) w.0

@@ -1,7 +1,9 @@
-pub mod Params
 pub mod Replies
 pub mod Joined
 pub mod Endings
 pub mod Causes
-pub mod Limits
+pub mod Stops
+pub mod Groups
+pub mod Columns
 pub mod CertifiedRuns
+pub mod Headlines

@@ -1,19 +1,19 @@
 -- What the program answers, for its words and for what the folder gave.
-use Rattle.std.specs.Prelude.{ℕ, List, [], ◌∷◌, ◌++◌, Option, Some, None, Result, Ok, Err, codes}
-use Rattle.std.specs.Fmt.{decimal}
-use Rattle.std.specs.List.{remove}
-use Rattle.sk_krawczyk.specs.declared.distance.Small.{Small}
-use Rattle.sk_app.specs.DistanceTest.{distance_test}
-use Rattle.sk_app.specs.declared.fault.StageFault.TheVariants.{NotYet}
+use Rattle.std.specs.Prelude.{ℕ, List, [], ◌∷◌, ◌++◌, map, length, Option, Some, None, Result, Ok, Err, codes}
+use Rattle.sk_records.specs.Reading.{read_text}
+use Rattle.sk_types.specs.declared.entity.Outline.{Outline}
+use Rattle.sk_model.specs.Typed.{Typed, typed}
+use Rattle.sk_chain.specs.Outlines.{outlined}
 use Rattle.sk_app.specs.declared.fault.Refusal.{Refusal}
-use Rattle.sk_app.specs.declared.fault.Refusal.TheVariants.{TooLarge, BadHeader, Stage}
+use Rattle.sk_app.specs.declared.fault.Refusal.TheVariants.{Text, Typed as IllTyped}
 use Rattle.sk_app.specs.declared.status.Status.{Status}
 use Rattle.sk_app.specs.declared.status.Status.TheVariants.{Done, Words, Model, Absent, Unread}
-use Rattle.sk_app.specs.Chain.{then_of, with_err}
+use Rattle.sk_app.specs.Chain.{then_of, with_err, unless}
 use Rattle.sk_app.specs.Command.{Command, command_of, model_name}
-use Rattle.sk_app.specs.declared.sketch.Sketch.{Sketch}
 use Rattle.sk_app.specs.declared.report.Certified.{Certified}
-use Rattle.sk_app.specs.FirstForm.{sketch_of, unknowns, stored_point, coordinates}
+use Rattle.sk_app.specs.FaultText.{refusal_text}
+use Rattle.sk_app.specs.Built.{unbuilt}
+use Rattle.sk_app.specs.Certified.{not_yet, all_certified}
 use Rattle.sk_app.specs.ReportText.{line, printed, group_text, last_line}
 
 -- what the folder gave for a name: it failed, or it has no such file, or the bytes
@@ -30,11 +30,6 @@ pub data Fault : Type 0 where
   BadModel : Refusal → Fault
   NoModel : List ℕ → Fault
   UnreadModel : List ℕ → Fault
-
-unfoldable pub refusal_text : Refusal → List ℕ
-refusal_text TooLarge = codes "too large"
-refusal_text BadHeader = codes "bad header"
-refusal_text (Stage (NotYet n)) = codes "not yet " ++ decimal n
 
 abbrev pub fault_text : Fault → List ℕ
 fault_text BadWords = codes "words"
@@ -60,27 +55,6 @@ file_of name Broke = Err (UnreadModel name)
 file_of name NoFile = Err (NoModel name)
 file_of name (Gave bytes) = Ok bytes
 
--- ---- the certified group of a sketch
-
--- the group of the sketch, where the test of its one distance passes
-abbrev pub certified_by : Sketch → Small → Certified
-certified_by k small = record {
-  group = 2;
-  retained = 1;
-  radius_log = small.radius_log;
-  bound = small.bound;
-  spread = small.spread;
-  held = remove (unknowns k) small.column;
-  centre = stored_point k;
-}
-
-abbrev pub certified_or : Sketch → Option Small → Result Certified Refusal
-certified_or k None = Err (Stage (NotYet k.closing))
-certified_or k (Some small) = Ok (certified_by k small)
-
-unfoldable pub certified_of : Sketch → Result Certified Refusal
-certified_of k = certified_or k (distance_test (coordinates k k.first) (coordinates k k.second) k.value)
-
 -- ---- the answer
 
 -- the pieces in order, and the status
@@ -88,18 +62,36 @@ pub record Answer : Type 0 where
   pub pieces : List (List ℕ)
   pub status : Status
 
-unfoldable pub report_of : List ℕ → Result Certified Refusal
-report_of text = then_of (sketch_of text) certified_of
+-- a model: what a text has, typed, and the outline of its entities
+pub record Accepted : Type 0 where
+  pub lists : Typed 36
+  pub outline : Outline 36
+
+-- the model of a text, or its first fault; what isn't built yet is told before references are looked up
+unfoldable pub accepted : List ℕ → Result Accepted Refusal
+accepted text =
+    then_of (with_err Text (read_text text)) (λ bs.
+    then_of (with_err IllTyped (typed 36 bs)) (λ lists.
+    unless (unbuilt lists) not_yet (
+    then_of (with_err IllTyped (outlined 36 lists)) (λ o. Ok (record { lists = lists; outline = o })))))
+
+-- the certified groups of a text, or what it is refused for
+unfoldable pub report_of : List ℕ → Result (List Certified) Refusal
+report_of text = then_of (accepted text) (λ m. all_certified m.lists m.outline)
 
 -- what is reported, or the first fault
-abbrev pub work_of : List (List ℕ) → Reply → Result Certified Fault
+abbrev pub work_of : List (List ℕ) → Reply → Result (List Certified) Fault
 work_of words reply =
     then_of (commanded (command_of words)) (λ command.
     then_of (file_of (model_name command) reply) (λ text.
     with_err BadModel (report_of text)))
 
-abbrev pub answered : Result Certified Fault → Answer
-answered (Ok c) = record { pieces = group_text (printed c) ∷ last_line 1 1 ∷ []; status = Done }
+-- a block for each group, then how many of them are certified: all
+abbrev pub report_pieces : List Certified → List (List ℕ)
+report_pieces cs = map (λ c. group_text (printed c)) cs ++ last_line (length cs) (length cs) ∷ []
+
+abbrev pub answered : Result (List Certified) Fault → Answer
+answered (Ok cs) = record { pieces = report_pieces cs; status = Done }
 answered (Err f) = record { pieces = fault_line (fault_text f) ∷ []; status = fault_status f }
 
 abbrev pub answer_of : List (List ℕ) → Reply → Answer

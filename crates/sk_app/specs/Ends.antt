@@ -94,7 +94,7 @@ reply_in files None = NoFile
 reply_in files (Some command) = found (held files (model_name command))
 
 -- what is reported of the words over these files, or the first fault
-abbrev pub work_in : Files → List (List ℕ) → Result Certified Fault
+abbrev pub work_in : Files → List (List ℕ) → Result (List Certified) Fault
 work_in files words = work_of words (reply_in files (command_of words))
 
 -- The status is the one of the work, with all of its pieces taken; or memory was wanted.

@@ -1,13 +1,17 @@
 -- The definitions on small inputs.
-use Rattle.std.specs.Prelude.{◌≡◌, ℕ, List, [], ◌∷◌, pos, Some, None, Err, codes, refl}
-use Rattle.sk_text.specs.Lines.{TextLine}
+use Rattle.std.specs.Prelude.{◌≡◌, [], ◌∷◌, Some, None, false, codes, refl}
+use Rattle.sk_digits.specs.Numerals.{padded}
+use Rattle.sk_model.specs.declared.faults.ModelFault.TheVariants.{LeftOut}
+use Rattle.sk_model.specs.declared.faults.Reason.TheVariants.{Request}
+use Rattle.sk_model.specs.Typed.{request_handle}
 use Rattle.sk_app.specs.declared.fault.StageFault.TheVariants.{NotYet}
-use Rattle.sk_app.specs.declared.fault.Refusal.TheVariants.{BadHeader, Stage}
+use Rattle.sk_app.specs.declared.fault.Refusal.TheVariants.{Stage}
 use Rattle.sk_app.specs.Command.{command_of, Report}
-use Rattle.sk_app.specs.Rows.{rest_from}
-use Rattle.sk_app.specs.FirstForm.{exactly, exact, group_lines, headed, header, value_of}
+use Rattle.sk_app.specs.FaultText.{refusal_text, reason_text, model_fault_text}
+use Rattle.sk_app.specs.Built.{first_without, is_built_request}
+use Rattle.sk_app.specs.Certified.{four_columns}
 use Rattle.sk_app.specs.ReportText.{held_line}
-use Rattle.sk_app.specs.Answer.{fault_line, fault_text, NoModel}
+use Rattle.sk_app.specs.Answer.{fault_line, fault_text, BadModel, NoModel}
 
 report_words : command_of (codes "report" ∷ codes "m.slvs" ∷ []) ≡ Some (Report (codes "m.slvs"))
 report_words = refl
@@ -15,28 +19,20 @@ report_words = refl
 report_alone : command_of (codes "report" ∷ []) ≡ None
 report_alone = refl
 
-line_of : List ℕ → TextLine
-line_of body = record { body = body; ending = 10 ∷ [] }
+-- a distance over the parameters of two points that stand side by side
+four_side_by_side : four_columns (0, 2) ≡ 0 ∷ 1 ∷ 2 ∷ 3 ∷ []
+four_side_by_side = refl
 
--- an empty line, a line of the form, and another one: line 4 is the first that isn't allowed
-first_wrong_line : exactly group_lines (rest_from 2 (line_of [] ∷ line_of (codes "Group.h.v=00000001") ∷ line_of (codes "AddGroup") ∷ [])) ≡ Err (NotYet 4)
-unfolding exact line_of
-first_wrong_line = refl
+first_unbuilt_request : first_without is_built_request request_handle (record { id = record { 0 = 4 }; kind = 200; group = record { 0 = 2 }; workplane = record { 0 = 65536 }; construction = false; extra = 0 } ∷ []) ≡ Some 4
+first_unbuilt_request = refl
 
--- where the text ends too soon, the line behind its last
-text_too_short : exactly group_lines (rest_from 2 (line_of (codes "Group.h.v=00000001") ∷ [])) ≡ Err (NotYet 3)
-unfolding exact line_of
-text_too_short = refl
+not_yet_text : fault_line (fault_text (BadModel (Stage (NotYet 2)))) ≡ codes "fault model not yet 00000002\n"
+unfolding refusal_text padded
+not_yet_text = refl
 
-no_header : headed (line_of (codes "SolveSpaceREVa") ∷ []) ≡ Err BadHeader
-unfolding line_of
-no_header = refl
-
-header_with_return : headed (record { body = header; ending = 13 ∷ 10 ∷ [] } ∷ []) ≡ Err (Stage (NotYet 1))
-header_with_return = refl
-
-absent_param : value_of (record { handle = 0x50010; value = pos 3 } ∷ []) 0x50011 ≡ pos 0
-absent_param = refl
+left_out_text : model_fault_text (LeftOut 4 Request) ≡ codes "left out 00000004 request"
+unfolding model_fault_text reason_text padded
+left_out_text = refl
 
 nothing_held : held_line [] ≡ codes "held none\n"
 nothing_held = refl

@@ -1,9 +1,10 @@
 pub mod Command
 pub mod Chain
-pub mod Rows
-pub mod FirstForm
-pub mod ReportText
+pub mod FaultText
+pub mod Built
 pub mod DistanceTest
+pub mod Certified
+pub mod ReportText
 pub mod Answer
 pub mod Ends
 pub mod Lent

@@ -3,7 +3,8 @@ use Rattle.std.specs.Prelude.{ℕ, List, [], ◌∷◌, ◌++◌, ℤ, codes, le
 use Rattle.std.specs.Fmt.{decimal, signed_decimal}
 use Rattle.sk_digits.specs.Numerals.{padded}
 use Rattle.sk_num.specs.Spelling.{quantity_text}
-use Rattle.sk_app.specs.declared.sketch.Param.{Param}
+use Rattle.sk_types.specs.declared.handle.ParamId.{ParamId}
+use Rattle.sk_types.specs.declared.entity.ParamValue.{ParamValue}
 use Rattle.sk_app.specs.declared.report.Certified.{Certified}
 
 -- A certified group as it is printed: the numbers of its certificate, its held parameters by handle, and each of its
@@ -17,18 +18,21 @@ pub record Block : Type 0 where
   pub held : List ℕ
   pub centre : List (ℕ × List ℕ)
 
-abbrev pub coordinate_text : Param → ℕ × List ℕ
-coordinate_text p = (p.handle, quantity_text 36 p.value)
+abbrev pub param_handle : ParamId → ℕ
+param_handle p = p.0
+
+abbrev pub coordinate_text : ParamValue 36 → ℕ × List ℕ
+coordinate_text p = (p.id.0, quantity_text 36 p.value)
 
 -- what is printed of a certified group
 abbrev pub printed : Certified → Block
 printed c = record {
-  group = c.group;
+  group = c.group.0;
   retained = c.retained;
   radius_log = c.radius_log;
   bound = c.bound;
   spread = c.spread;
-  held = c.held;
+  held = map param_handle c.held;
   centre = map coordinate_text c.centre;
 }
 

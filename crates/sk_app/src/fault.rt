@@ -2,24 +2,28 @@
 ghost use Rattle.std.specs.Prelude.{◌≡◌};
 ghost use Rattle.sk_app.specs.declared.fault.Stop.TheVariants.{NoMemory, Refused};
 ghost use Rattle.sk_app.specs.declared.fault.Refusal.TheVariants.{Stage};
+ghost use Rattle.sk_app.specs.Lent.{stop_of_text, stop_of_model};
 
+use sk_model::ModelFault;
+use sk_records::ReadFault;
 use std::alloc::{AllocError, AllocFailed};
 
 /// A form of input that isn't built yet.
 #[derive(Clone, Copy, Debug, PartialEq, Eq)]
 pub enum StageFault {
-    /// The first line that isn't allowed in its place.
+    /// The handle of the first thing that isn't built: a group, a request or a constraint, by the kind of its own; or the
+    /// first group whose form isn't built.
     NotYet(u32),
 }
 
 /// Why the text of a model isn't taken.
 #[derive(Clone, Copy, Debug, PartialEq, Eq)]
 pub(crate) enum Refusal {
-    /// The text has more than 2^26 bytes.
-    TooLarge,
-    /// The first line isn't the header of the format.
-    BadHeader,
-    /// The form isn't built yet.
+    /// Its lines are no text of the format.
+    Text(ReadFault),
+    /// Its records are no model.
+    Typed(ModelFault),
+    /// Its form isn't built yet.
     Stage(StageFault),
 }
 
@@ -40,11 +44,27 @@ impl From<StageFault> for Stop {
     }
 }
 
-impl From<Refusal> for Stop {
-    ghost from_gives = { λ r s. s ≡ Refused r };
+impl From<ReadFault> for Stop {
+    ghost from_gives = { λ f s. s ≡ stop_of_text f };
 
-    fn from(refusal: Refusal) -> Self {
-        Stop::Refused(refusal)
+    #[tactic(auto, unfolding(crate::specs::Lent::stop_of_text))]
+    fn from(fault: ReadFault) -> Self {
+        match fault {
+            ReadFault::NoMemory => Stop::NoMemory,
+            fault => Stop::Refused(Refusal::Text(fault)),
+        }
+    }
+}
+
+impl From<ModelFault> for Stop {
+    ghost from_gives = { λ f s. s ≡ stop_of_model f };
+
+    #[tactic(auto, unfolding(crate::specs::Lent::stop_of_model))]
+    fn from(fault: ModelFault) -> Self {
+        match fault {
+            ModelFault::NoMemory => Stop::NoMemory,
+            fault => Stop::Refused(Refusal::Typed(fault)),
+        }
     }
 }
 

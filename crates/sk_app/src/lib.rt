@@ -1,20 +1,21 @@
 //! The top call: words and a folder in, printed pieces and a status out.
 #![tactic(auto)]
 
+mod accepted;
+mod built;
 mod certify;
 mod command;
 mod fault;
-mod form;
+mod fault_text;
 mod pieces;
 mod prepared;
 mod report;
-mod rows;
-mod sketch;
 mod status;
 #[cfg(test)]
 mod tests;
 mod top;
 
+pub use built::unbuilt;
 pub use fault::StageFault;
 pub use top::run;
 

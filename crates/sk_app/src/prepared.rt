@@ -1,14 +1,15 @@
 // What a command puts, made before the first put.
 ghost use Rattle.std.specs.Prelude.{◌≡◌, ◌≤◌, ◌++◌, IfOk, OnOk, Ok, Err};
 ghost use Rattle.sk_files.specs.Outcome.{Rose};
-ghost use Rattle.sk_app.specs.Lent.{IsAnswer, fault_of, Prepares, words_of};
-ghost use Rattle.sk_app.specs.Answer.{report_of, refusal_text as refusal_bytes, fault_text as fault_bytes, fault_status};
+ghost use Rattle.sk_app.specs.Lent.{IsAnswer, with_items, fault_of, Prepares, words_of};
+ghost use Rattle.sk_app.specs.Answer.{report_of, fault_text as fault_bytes, fault_status};
 
-use crate::certify::certify;
+use crate::accepted::accept;
+use crate::certify::certify_all;
 use crate::command::read_command;
-use crate::fault::{Refusal, StageFault, Stop};
-use crate::form::read_sketch;
-use crate::report::{Certified, group_text, last_line, push_count};
+use crate::fault::{Refusal, Stop};
+use crate::fault_text::push_refusal;
+use crate::report::{Certified, group_text, last_line};
 use crate::status::Status;
 use sk_files::{Folder, OuterFault};
 use std::alloc::{AllocError, Global};
@@ -46,22 +47,6 @@ pub(crate) struct Prepared {
     pub(crate) status: Status,
 }
 
-// Puts the text of a refusal behind the text.
-#[tactic(auto, unfolding(crate::specs::Answer::refusal_text))]
-fn push_refusal(out: &mut Vec<u8>, refusal: Refusal) -> Result<(), AllocError>
-    ensures { OnOk result (out.new.items ≡ out.old.items ++ refusal_bytes refusal) }
-{
-    match refusal {
-        Refusal::TooLarge => out.extend_from_slice(b"too large")?,
-        Refusal::BadHeader => out.extend_from_slice(b"bad header")?,
-        Refusal::Stage(StageFault::NotYet(line)) => {
-            out.extend_from_slice(b"not yet ")?;
-            push_count(out, line.into())?;
-        }
-    }
-    Ok(())
-}
-
 // Puts the text of a fault behind the text.
 fn push_fault(out: &mut Vec<u8>, fault: &Fault<'_>) -> Result<(), AllocError>
     ensures { OnOk result (out.new.items ≡ out.old.items ++ fault_bytes (fault_of fault.now)) }
@@ -86,11 +71,11 @@ fn push_fault(out: &mut Vec<u8>, fault: &Fault<'_>) -> Result<(), AllocError>
 
 // The report of a text.
 #[tactic(auto, unfolding(crate::specs::Answer::report_of))]
-fn report(alloc: Global, text: &[u8]) -> Result<Certified, Stop>
-    ensures { IsAnswer result (report_of text.now) }
+fn report(alloc: Global, text: Vec<u8>) -> Result<Vec<Certified>, Stop>
+    ensures { IsAnswer (with_items result) (report_of text.items) }
 {
-    let sketch = read_sketch(alloc, text)?;
-    certify(alloc, &sketch)
+    let accepted = accept(alloc, text)?;
+    certify_all(alloc, &accepted.model, &accepted.outline)
 }
 
 impl Prepared {
@@ -113,13 +98,15 @@ impl Prepared {
         })
     }
 
-    // The block of the one group, and the last line.
-    fn certified(alloc: Global, certified: &Certified) -> Result<Prepared, AllocError>
-        ensures { IfOk result (λ p. shown p ≡ answered (Ok certified.now)) }
+    // The block of each group, and the last line.
+    fn certified(alloc: Global, groups: &[Certified]) -> Result<Prepared, AllocError>
+        ensures { IfOk result (λ p. shown p ≡ answered (Ok groups.now)) }
     {
         let mut pieces = Vec::new(alloc);
-        pieces.push(group_text(alloc, certified)?)?;
-        pieces.push(last_line(alloc, 1, 1)?)?;
+        for group in groups {
+            pieces.push(group_text(alloc, group)?)?;
+        }
+        pieces.push(last_line(alloc, groups.len(), groups.len())?)?;
         Ok(Prepared {
             pieces,
             status: Status::Done,
@@ -127,11 +114,11 @@ impl Prepared {
     }
 
     // What is put for a text.
-    fn of_text(alloc: Global, text: &[u8]) -> Result<Prepared, AllocError>
-        ensures { IfOk result (λ p. shown p ≡ answered (with_err BadModel (report_of text.now))) }
+    fn of_text(alloc: Global, text: Vec<u8>) -> Result<Prepared, AllocError>
+        ensures { IfOk result (λ p. shown p ≡ answered (with_err BadModel (report_of text.items))) }
     {
         match report(alloc, text) {
-            Ok(certified) => Prepared::certified(alloc, &certified),
+            Ok(groups) => Prepared::certified(alloc, &groups),
             Err(Stop::Refused(refusal)) => Prepared::refused(alloc, &Fault::Model(refusal)),
             Err(Stop::NoMemory) => Err(AllocError),
         }
@@ -152,7 +139,7 @@ impl Prepared {
         };
         let model = command.model();
         match folder.read(alloc, model) {
-            Ok(Some(text)) => Prepared::of_text(alloc, &text),
+            Ok(Some(text)) => Prepared::of_text(alloc, text),
             Ok(None) => Prepared::refused(alloc, &Fault::Absent(model)),
             Err(OuterFault::Failed) => Prepared::refused(alloc, &Fault::Unread(model)),
             Err(OuterFault::NoMemory) => Err(AllocError),

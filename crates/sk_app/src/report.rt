@@ -2,20 +2,20 @@
 ghost use Rattle.std.specs.Prelude.{◌≡◌, ◌++◌, OnOk, IfOk, map, flat_map};
 ghost use Rattle.std.specs.Fmt.{decimal, signed_decimal};
 ghost use Rattle.sk_num.specs.Spelling.{quantity_text as quantity_bytes};
-ghost use Rattle.sk_app.specs.ReportText.{handle as handle_bytes, head_line, count_line, box_line, held_line, spaced_handle, coordinate_text, param_line, printed, group_text as block_text, last_line as last_text};
+ghost use Rattle.sk_app.specs.ReportText.{handle as handle_bytes, param_handle, head_line, count_line, box_line, held_line, spaced_handle, coordinate_text, param_line, printed, group_text as block_text, last_line as last_text};
 
 use crate::SCALE;
-use crate::sketch::Param;
 use itoa::Buffer;
 use sk_num::{Grid, Items, handle_text, quantity_text};
+use sk_types::{GroupId, ParamId, ParamValue};
 use std::alloc::{AllocError, Global};
 
 /// A certified group: the numbers of its certificate, its held parameters by handle, and its
 /// unknown parameters at the centre of the box.
 #[derive(Drop)]
 pub(crate) struct Certified {
-    /// The group's handle.
-    pub(crate) group: u32,
+    /// The group.
+    pub(crate) group: GroupId,
     /// How many rows have a pivot.
     pub(crate) retained: u16,
     /// The radius of the box is 2^radius_log.
@@ -25,9 +25,9 @@ pub(crate) struct Certified {
     /// Any two such points lie within spread / 2^n.
     pub(crate) spread: u128,
     /// The parameters in which the box has no width.
-    pub(crate) held: Items<u32>,
+    pub(crate) held: Items<ParamId>,
     /// The unknown parameters, by handle.
-    pub(crate) centre: Items<Param>,
+    pub(crate) centre: Items<ParamValue<SCALE>>,
 }
 
 /// Puts a count behind the text.
@@ -45,7 +45,8 @@ fn push_exponent(out: &mut Vec<u8>, exponent: i8) -> Result<(), AllocError>
     Ok(())
 }
 
-fn push_handle(out: &mut Vec<u8>, handle: u32) -> Result<(), AllocError>
+/// Puts a handle in eight digits behind the text.
+pub(crate) fn push_handle(out: &mut Vec<u8>, handle: u32) -> Result<(), AllocError>
     ensures { OnOk result (out.new.items ≡ out.old.items ++ handle_bytes handle) }
 {
     out.extend_from_slice(&handle_text(handle))?;
@@ -102,18 +103,18 @@ fn push_box(out: &mut Vec<u8>, radius_log: i8, bound: u64, spread: u128) -> Resu
     Ok(())
 }
 
-fn push_handles(out: &mut Vec<u8>, handles: &[u32]) -> Result<(), AllocError>
-    ensures { OnOk result (out.new.items ≡ out.old.items ++ flat_map spaced_handle handles.now) }
+fn push_handles(out: &mut Vec<u8>, handles: &[ParamId]) -> Result<(), AllocError>
+    ensures { OnOk result (out.new.items ≡ out.old.items ++ flat_map spaced_handle (map param_handle handles.now)) }
 {
     for handle in handles {
         out.extend_from_slice(b" ")?;
-        push_handle(out, *handle)?;
+        push_handle(out, handle.0)?;
     }
     Ok(())
 }
 
-fn push_held(out: &mut Vec<u8>, held: &[u32]) -> Result<(), AllocError>
-    ensures { OnOk result (out.new.items ≡ out.old.items ++ held_line held.now) }
+fn push_held(out: &mut Vec<u8>, held: &[ParamId]) -> Result<(), AllocError>
+    ensures { OnOk result (out.new.items ≡ out.old.items ++ held_line (map param_handle held.now)) }
 {
     out.extend_from_slice(b"held")?;
     if held.is_empty() {
@@ -126,18 +127,18 @@ fn push_held(out: &mut Vec<u8>, held: &[u32]) -> Result<(), AllocError>
 }
 
 #[tactic(auto, unfolding(crate::specs::ReportText::param_line))]
-fn push_param(out: &mut Vec<u8>, param: &Param) -> Result<(), AllocError>
+fn push_param(out: &mut Vec<u8>, param: &ParamValue<SCALE>) -> Result<(), AllocError>
     ensures { OnOk result (out.new.items ≡ out.old.items ++ param_line (coordinate_text param.now)) }
 {
     out.extend_from_slice(b"param ")?;
-    push_handle(out, param.handle)?;
+    push_handle(out, param.id.0)?;
     out.extend_from_slice(b" ")?;
     push_quantity(out, param.value)?;
     out.extend_from_slice(b"\n")?;
     Ok(())
 }
 
-fn push_params(out: &mut Vec<u8>, params: &[Param]) -> Result<(), AllocError>
+fn push_params(out: &mut Vec<u8>, params: &[ParamValue<SCALE>]) -> Result<(), AllocError>
     ensures { OnOk result (out.new.items ≡ out.old.items ++ flat_map param_line (map coordinate_text params.now)) }
 {
     for param in params {
@@ -154,7 +155,7 @@ pub(crate) fn group_text(alloc: Global, c: &Certified) -> Result<Vec<u8>, AllocE
     let mut out = Vec::new(alloc);
     let held = c.held.as_slice();
     let centre = c.centre.as_slice();
-    push_head(&mut out, c.group)?;
+    push_head(&mut out, c.group.0)?;
     push_counts(&mut out, centre.len(), c.retained, held.len())?;
     push_box(&mut out, c.radius_log, c.bound, c.spread)?;
     push_held(&mut out, held)?;
@@ -164,13 +165,17 @@ pub(crate) fn group_text(alloc: Global, c: &Certified) -> Result<Vec<u8>, AllocE
 
 /// How many of the listed groups are certified.
 #[tactic(auto, unfolding(crate::specs::ReportText::last_line))]
-pub(crate) fn last_line(alloc: Global, certified: u16, listed: u16) -> Result<Vec<u8>, AllocError>
+pub(crate) fn last_line(
+    alloc: Global,
+    certified: usize,
+    listed: usize,
+) -> Result<Vec<u8>, AllocError>
     ensures { IfOk result (λ t. t.items ≡ last_text certified listed) }
 {
     let mut out = Vec::from_slice(alloc, b"certified ")?;
-    push_count(&mut out, certified.into())?;
+    push_count(&mut out, certified as u128)?;
     out.extend_from_slice(b" of ")?;
-    push_count(&mut out, listed.into())?;
+    push_count(&mut out, listed as u128)?;
     out.extend_from_slice(b"\n")?;
     Ok(out)
 }

@@ -4,11 +4,9 @@ ghost use Rattle.sk_files.specs.Files.{OnTold, held};
 ghost use Rattle.sk_files.specs.Outcome.{Rose};
 ghost use Rattle.sk_app.specs.declared.fault.Refusal.{Refusal};
 ghost use Rattle.sk_app.specs.declared.report.Certified.{Certified};
-ghost use Rattle.sk_app.specs.declared.sketch.Sketch.{Sketch};
 ghost use Rattle.sk_app.specs.declared.status.End.{End as HowEnded};
 ghost use Rattle.sk_app.specs.Command.{command_of, Report};
-ghost use Rattle.sk_app.specs.FirstForm.{sketch_of};
-ghost use Rattle.sk_app.specs.Answer.{BadModel, NoModel, answered};
+ghost use Rattle.sk_app.specs.Answer.{Accepted, accepted, BadModel, NoModel, answered};
 ghost use Rattle.sk_app.specs.Ends.{RunsTo, IsComplete, code_of, work_in};
 ghost use Rattle.sk_app.specs.Lent.{words_of};
 ghost use Rattle.sk_app.specs.Printed.{Headline};
@@ -57,7 +55,7 @@ pub fn run<F: Folder, W: Sink, L: Ledger>(
         (W.taken out.old) (W.taken out.new) (Rose (W.faults out.old) (W.faults out.new)) end }
     // Each status comes only where its clause says so.
     ensures done { result ≡ 0 → OnTold (F.files folder.old) (λ files.
-        (c : Certified) × (work_in files (words_of words.now) ≡ Ok c)) }
+        (groups : List Certified) × (work_in files (words_of words.now) ≡ Ok groups)) }
     ensures words { result ≡ 1 → command_of (words_of words.now) ≡ None }
     ensures model { result ≡ 2 → OnTold (F.files folder.old) (λ files.
         (r : Refusal) × (work_in files (words_of words.now) ≡ Err (BadModel r))) }
@@ -72,9 +70,9 @@ pub fn run<F: Folder, W: Sink, L: Ledger>(
         → (Rose (W.faults out.old) (W.faults out.new) → ⊥)
         → IsComplete (answered (work_in files (words_of words.now))) (W.taken out.old) (W.taken out.new) result) }
     // A group is printed certified exactly where its printed box passes the interval test.
-    ensures headline { OnTold (F.files folder.old) (λ files. (model text : List ℕ) (k : Sketch)
-        → command_of (words_of words.now) ≡ Some (Report model) → held files model ≡ Some text → sketch_of text ≡ Ok k
-        → Headline k (W.taken out.old) (W.taken out.new)
+    ensures headline { OnTold (F.files folder.old) (λ files. (model text : List ℕ) (m : Accepted)
+        → command_of (words_of words.now) ≡ Some (Report model) → held files model ≡ Some text → accepted text ≡ Ok m
+        → Headline m (W.taken out.old) (W.taken out.new)
         (Rose (F.faults folder.old) (F.faults folder.new)) (Rose (W.faults out.old) (W.faults out.new)) result) }
     ensures files { F.files folder.new ≡ F.files folder.old }
     ensures cost { steps.new ≡ steps.old }

@@ -1,6 +1,9 @@
-use Rattle.std.proofs.Common.{◌≡◌, map, take}
-use Rattle.sk_app.specs.FirstForm.{value_of}
+use Rattle.std.proofs.Common.{◌≡◌, ◌++◌, ◌==◌, drop}
+use Rattle.std.specs.List.{filter}
+use Rattle.sk_app.specs.Certified.{stored_point}
 use Rattle.sk_app.proofs.certify.stored_point.Given as goal
 
-abbrev pub invariant-loop-handle : goal.invariant-loop-handle
-invariant-loop-handle l = l.point.items ≡ map (λ h. record { handle = h; value = value_of l.sketch.params h }) (take l.handle-index l.handle-items)
+abbrev pub invariant-loop-entity : goal.invariant-loop-entity
+invariant-loop-entity l =
+    l.point.items ++ stored_point l.model.lists (filter (λ e. e.group.0 == l.group.0) (drop l.entity-index l.outline.entities))
+    ≡ stored_point l.model.lists (filter (λ e. e.group.0 == l.group.0) l.outline.entities)

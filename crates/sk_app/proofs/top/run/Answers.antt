@@ -1,5 +1,5 @@
 use Rattle.sk_app.proofs.Causes.{done_cause, words_cause, model_cause, absent_cause, unread_cause, sink_cause, complete_cause}
-use Rattle.sk_app.proofs.CertifiedRuns.{headline_cause}
+use Rattle.sk_app.proofs.Headlines.{headline_cause}
 use Rattle.sk_app.proofs.top.run.Goals as goal
 
 pub returns-clause-done : goal.returns-clause-done

@@ -12,5 +12,5 @@ returns-in-Ok-Some-clause-answer g c =
     let command : command_of (words_of c.args.words.now) ≡ Some (asked c.in-Some.command) = sym c.in-Some.ensures in
     let read = rw c.model-model.ensures at (rw c.in-Ok-Some.field-0-is at c.in-Ok-Some.ensures.answer) in
     IfOk-weaker c.of_text.result _ _
-    (λ p e. (Gave text.items, rw command (rw c.deref.ensures.value at e), rw command (gave_reply _ _ _ text read)))
+    (λ p e. (Gave text.items, rw command e, rw command (gave_reply _ _ _ text read)))
     c.of_text.ensures
