@@ -1,6 +1,7 @@
 -- What a run over an accepted model prints.
 use Rattle.std.proofs.Common.{◌≡◌, ℕ, zero, suc, ℤ, pos, List, [], ◌∷◌, ◌++◌, map, length, Option, Some, None, Bool, true, false, Result, Ok, Err, refl, ap, sym, ◌∙◌, subst, lit≤}
 use Rattle.std.specs.Prelude.{◌^◌, unsigned_abs, option_map, option_and_then, flat_map, unwrap_or}
+use Rattle.std.specs.Option.{ok_or}
 use Rattle.std.specs.List.{All, filter, remove}
 use Rattle.std.proofs.lemmas.List.Elements.{All-nil, All-cons, All-head, All-tail}
 use Rattle.std.proofs.lemmas.Bool.{le-leb}
@@ -23,7 +24,7 @@ use Rattle.sk_krawczyk.specs.FreeLaws.{free-passes}
 use Rattle.sk_app.specs.DistanceTest.{distance_test}
 use Rattle.sk_app.specs.declared.fault.Refusal.{Refusal}
 use Rattle.sk_app.specs.declared.report.Certified.{Certified}
-use Rattle.sk_app.specs.Chain.{then_of, refused, or_err, each_ok}
+use Rattle.sk_app.specs.Chain.{then_of, refused, each_ok}
 use Rattle.sk_app.specs.Certified.{members, stored, stored_point, is_distance_in, columns_of, coordinates, four_columns, solved_column, handles, free_group, distance_group, tested_at, by_distances, not_yet, certified_in, reported_groups, all_certified}
 use Rattle.sk_app.specs.ReportText.{printed, param_handle, coordinate_text}
 use Rattle.sk_app.specs.Answer.{Accepted}
@@ -160,11 +161,11 @@ refused-ok : {A E : Type 0} (b : Bool) (e : E) (r : Result A E) (x : A) → refu
 refused-ok true e r x h = absurd cc
 refused-ok false e r x h = h
 
-or_err-ok : {A E : Type 0} (e : E) (o : Option A) (x : A) → or_err e o ≡ Ok x → o ≡ Some x
-or_err-ok e None x h = absurd cc
-or_err-ok e (Some y) x h = ap Some (ok-same _ y x refl h)
+ok_or-ok : {A E : Type 0} (e : E) (o : Option A) (x : A) → ok_or o e ≡ Ok x → o ≡ Some x
+ok_or-ok e None x h = absurd cc
+ok_or-ok e (Some y) x h = ap Some (ok-same _ y x refl h)
 
-refused-err : {A E : Type 0} (b : Bool) (e f : E) (o : Option A) → refused b e (or_err e o) ≡ Err f → e ≡ f
+refused-err : {A E : Type 0} (b : Bool) (e f : E) (o : Option A) → refused b e (ok_or o e) ≡ Err f → e ≡ f
 refused-err true e f o h = err-same _ e f refl h
 refused-err false e f None h = err-same _ e f refl h
 refused-err false e f (Some x) h = absurd cc
@@ -181,7 +182,7 @@ unfolding certified_in
 one_certified m g c fit h =
     let es = members g m.outline in
     let centre = stored_point m.lists es in
-    let found = or_err-ok _ _ c (refused-ok _ _ _ c h) in
+    let found = ok_or-ok _ _ c (refused-ok _ _ _ c h) in
     let fits = stored_fit m.lists (flat_map own_params es) fit in
     let p = by_case g centre es (filter (is_distance_in g) m.lists.constraints) c (wide-is m.lists es) fits found in
     record {

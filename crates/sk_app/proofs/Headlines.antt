@@ -1,6 +1,6 @@
 -- The headline of a run over an accepted model.
 use Rattle.std.proofs.Common.{◌≡◌, ◌⊎◌, ℕ, suc, pos, append_assoc, List, [], ◌∷◌, ◌++◌, map, length, Option, Some, None, Result, Ok, Err, refl, ap, sym, ◌∙◌, inl, inr, append-nil, subst}
-use Rattle.std.specs.Prelude.{flat_map, unwrap_or}
+use Rattle.std.specs.Prelude.{flat_map, option_map, unwrap_or}
 use Rattle.sk_num.specs.Limit.{IsInLimit}
 use Rattle.sk_files.specs.Files.{Files, OnTold, held}
 use Rattle.sk_files.specs.Taken.{Takes}
@@ -43,17 +43,17 @@ outline_step lists bs (Ok o) m t h =
     subst (λ (m : Accepted). IsTypedFrom m.lists) (ok-same _ (record { lists = lists; outline = o }) m refl h) (record { blocks = bs; typed_as = t })
 
 built_step : (lists : Typed 36) (bs : List TextBlock) (u : Option ℕ) (m : Accepted) → typed 36 bs ≡ Ok lists
-    → unless u not_yet (then_of (with_err IllTyped (outlined 36 lists)) (λ o. Ok (record { lists = lists; outline = o }))) ≡ Ok m → IsTypedFrom m.lists
+    → unless (option_map not_yet u) (then_of (with_err IllTyped (outlined 36 lists)) (λ o. Ok (record { lists = lists; outline = o }))) ≡ Ok m → IsTypedFrom m.lists
 built_step lists bs (Some n) m t h = absurd cc
 built_step lists bs None m t h = outline_step lists bs (outlined 36 lists) m t h
 
 typed_step : (bs : List TextBlock) (r : Result (Typed 36) ModelFault) (m : Accepted) → typed 36 bs ≡ r
-    → then_of (with_err IllTyped r) (λ lists. unless (unbuilt lists) not_yet (then_of (with_err IllTyped (outlined 36 lists)) (λ o. Ok (record { lists = lists; outline = o })))) ≡ Ok m → IsTypedFrom m.lists
+    → then_of (with_err IllTyped r) (λ lists. unless (option_map not_yet (unbuilt lists)) (then_of (with_err IllTyped (outlined 36 lists)) (λ o. Ok (record { lists = lists; outline = o })))) ≡ Ok m → IsTypedFrom m.lists
 typed_step bs (Err e) m t h = absurd cc
 typed_step bs (Ok lists) m t h = built_step lists bs (unbuilt lists) m t h
 
 read_step : (r : Result (List TextBlock) ReadFault) (m : Accepted)
-    → then_of (with_err Text r) (λ bs. then_of (with_err IllTyped (typed 36 bs)) (λ lists. unless (unbuilt lists) not_yet (then_of (with_err IllTyped (outlined 36 lists)) (λ o. Ok (record { lists = lists; outline = o }))))) ≡ Ok m
+    → then_of (with_err Text r) (λ bs. then_of (with_err IllTyped (typed 36 bs)) (λ lists. unless (option_map not_yet (unbuilt lists)) (then_of (with_err IllTyped (outlined 36 lists)) (λ o. Ok (record { lists = lists; outline = o }))))) ≡ Ok m
     → IsTypedFrom m.lists
 read_step (Err e) m h = absurd cc
 read_step (Ok bs) m h = typed_step bs (typed 36 bs) m refl h

@@ -1,5 +1,5 @@
 -- What the program answers, for its words and for what the folder gave.
-use Rattle.std.specs.Prelude.{ℕ, List, [], ◌∷◌, ◌++◌, map, length, Option, Some, None, Result, Ok, Err, codes}
+use Rattle.std.specs.Prelude.{ℕ, List, [], ◌∷◌, ◌++◌, map, length, Option, Some, None, option_map, Result, Ok, Err, codes}
 use Rattle.sk_records.specs.Reading.{read_text}
 use Rattle.sk_types.specs.declared.entity.Outline.{Outline}
 use Rattle.sk_model.specs.Typed.{Typed, typed}
@@ -72,7 +72,7 @@ unfoldable pub accepted : List ℕ → Result Accepted Refusal
 accepted text =
     then_of (with_err Text (read_text text)) (λ bs.
     then_of (with_err IllTyped (typed 36 bs)) (λ lists.
-    unless (unbuilt lists) not_yet (
+    unless (option_map not_yet (unbuilt lists)) (
     then_of (with_err IllTyped (outlined 36 lists)) (λ o. Ok (record { lists = lists; outline = o })))))
 
 -- the certified groups of a text, or what it is refused for

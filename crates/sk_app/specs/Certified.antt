@@ -1,5 +1,6 @@
 -- The groups of a model as they are certified: each at its stored point, where the test of its one distance passes.
 use Rattle.std.specs.Prelude.{ℕ, ◌+◌, ◌==◌, ◌&&◌, nat_lt, Bool, not, map, List, [], ◌∷◌, flat_map, length, get_or, ℤ, pos, negsuc, Option, Some, None, option_and_then, option_map, unwrap_or, Result, if◌then◌else◌}
+use Rattle.std.specs.Option.{ok_or}
 use Rattle.std.specs.List.{filter, list_any, remove}
 use Rattle.sk_types.specs.declared.handle.GroupId.{GroupId}
 use Rattle.sk_types.specs.declared.handle.ParamId.{ParamId}
@@ -17,7 +18,7 @@ use Rattle.sk_app.specs.declared.fault.StageFault.TheVariants.{NotYet}
 use Rattle.sk_app.specs.declared.fault.Refusal.{Refusal}
 use Rattle.sk_app.specs.declared.fault.Refusal.TheVariants.{Stage}
 use Rattle.sk_app.specs.declared.report.Certified.{Certified}
-use Rattle.sk_app.specs.Chain.{refused, or_err, each_ok}
+use Rattle.sk_app.specs.Chain.{refused, each_ok}
 use Rattle.sk_app.specs.DistanceTest.{distance_test}
 
 -- ---- the unknowns of a group
@@ -121,7 +122,7 @@ not_yet h = Stage (NotYet h)
 unfoldable pub certified_in : Typed 36 → Outline 36 → GroupId → Result Certified Refusal
 certified_in lists o g =
     refused (list_any (is_elsewhere g) lists.requests) (not_yet g.0) (
-    or_err (not_yet g.0) (by_distances g (stored_point lists (members g o)) (members g o) (filter (is_distance_in g) lists.constraints)))
+    ok_or (by_distances g (stored_point lists (members g o)) (members g o) (filter (is_distance_in g) lists.constraints)) (not_yet g.0))
 
 -- group 1 has the reference workplanes alone, and isn't reported
 abbrev pub is_reported : GroupId → Bool

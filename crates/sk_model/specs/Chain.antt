@@ -7,17 +7,17 @@ use Rattle.sk_model.specs.declared.faults.ModelFault.{ModelFault}
 use Rattle.sk_model.specs.declared.faults.ModelFault.TheVariants.{UnknownKind, LeftOut, NoMemory}
 use Rattle.sk_model.specs.declared.faults.Reason.{Reason}
 
-abbrev pub then_of : {T U : Type 0} → Result T ModelFault → (T → Result U ModelFault) → Result U ModelFault
+abbrev pub then_of : {T U E : Type 0} → Result T E → (T → Result U E) → Result U E
 then_of (Ok x) f = f x
 then_of (Err e) f = Err e
 
 -- the fault where the test holds, else what follows
-abbrev pub refused : {T : Type 0} → Bool → ModelFault → Result T ModelFault → Result T ModelFault
+abbrev pub refused : {T E : Type 0} → Bool → E → Result T E → Result T E
 refused true e r = Err e
 refused false e r = r
 
 -- the fault, if there is one, else what follows
-abbrev pub unless : {T : Type 0} → Option ModelFault → Result T ModelFault → Result T ModelFault
+abbrev pub unless : {T E : Type 0} → Option E → Result T E → Result T E
 unless None r = r
 unless (Some e) r = Err e
 
