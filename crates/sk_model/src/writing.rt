@@ -10,6 +10,7 @@ ghost use Rattle.sk_model.specs.Changes.{fed_line, entry_text};
 ghost use Rattle.sk_model.specs.WrittenLines.{IsParamText, IsEntryText, IsListText};
 
 use crate::keys::Key;
+use itoa::Buffer;
 use sk_num::{Grid, handle_text, quantity_text};
 use sk_types::RemapEntry;
 use std::alloc::{AllocError, Global};
@@ -50,12 +51,7 @@ pub(crate) fn param_text<const S: u32>(
 fn push_decimal(out: &mut Vec<u8>, n: u16) -> Result<(), AllocError>
     ensures { OnOk result (out.new.items ≡ out.old.items ++ decimal n) }
 {
-    if n < 10 {
-        out.push(b'0' + n as u8)?;
-        return Ok(());
-    }
-    push_decimal(out, n / 10)?;
-    out.push(b'0' + (n % 10) as u8)?;
+    out.extend_from_slice(Buffer::new().format(n).as_bytes())?;
     Ok(())
 }
 
