@@ -117,9 +117,9 @@ fn a_model_has_its_records(rt: HostRuntime) -> Result<(), Fail> {
 }
 
 #[test]
-fn the_first_fault_answers(rt: HostRuntime) -> Result<(), Fail> {
+fn values_and_handles_are_refused(rt: HostRuntime) -> Result<(), Fail> {
     let alloc = rt.alloc();
-    let rows: [(usize, &[u8], ModelFault); 34] = [
+    let rows: [(usize, &[u8], ModelFault); 9] = [
         (1, b"Group.type=", ModelFault::NumberAt(5)),
         (10, b"Param.val=3.", ModelFault::NumberAt(14)),
         (38, b"Constraint.entityD.v=g", ModelFault::NumberAt(42)),
@@ -133,6 +133,17 @@ fn the_first_fault_answers(rt: HostRuntime) -> Result<(), Fail> {
         ),
         (4, b"Group.h.v=00000001", ModelFault::DuplicateHandle(1)),
         (28, b"Request.h.v=00000003", ModelFault::DuplicateHandle(3)),
+    ];
+    for (i, (at, line, wanted)) in rows.iter().enumerate() {
+        assert_eq!(rt; fault(alloc, &[(*at, *line)])?, Some(*wanted), "row {i}");
+    }
+    Ok(())
+}
+
+#[test]
+fn kinds_of_groups_are_refused(rt: HostRuntime) -> Result<(), Fail> {
+    let alloc = rt.alloc();
+    let rows: [(usize, &[u8], ModelFault); 8] = [
         (5, b"Group.type=5101", ModelFault::LeftOut(2, Reason::Group)),
         (5, b"Group.type=5001", ModelFault::UnknownKind(2, 0)),
         (5, b"Group.type=5002", ModelFault::UnknownKind(2, 5002)),
@@ -161,6 +172,17 @@ fn the_first_fault_answers(rt: HostRuntime) -> Result<(), Fail> {
             b"Group.type=5201\nGroup.subtype=7000\nGroup.valA=0.9",
             ModelFault::BadValue(2),
         ),
+    ];
+    for (i, (at, line, wanted)) in rows.iter().enumerate() {
+        assert_eq!(rt; fault(alloc, &[(*at, *line)])?, Some(*wanted), "row {i}");
+    }
+    Ok(())
+}
+
+#[test]
+fn groups_are_refused_for_their_values(rt: HostRuntime) -> Result<(), Fail> {
+    let alloc = rt.alloc();
+    let rows: [(usize, &[u8], ModelFault); 6] = [
         (
             6,
             b"Group.remap={\n    0 00010000 0\n}",
@@ -191,6 +213,17 @@ fn the_first_fault_answers(rt: HostRuntime) -> Result<(), Fail> {
             b"Request.type=300",
             ModelFault::LeftOut(4, Reason::Request),
         ),
+    ];
+    for (i, (at, line, wanted)) in rows.iter().enumerate() {
+        assert_eq!(rt; fault(alloc, &[(*at, *line)])?, Some(*wanted), "row {i}");
+    }
+    Ok(())
+}
+
+#[test]
+fn requests_and_constraints_are_refused(rt: HostRuntime) -> Result<(), Fail> {
+    let alloc = rt.alloc();
+    let rows: [(usize, &[u8], ModelFault); 7] = [
         (29, b"Request.type=-5", ModelFault::UnknownKind(4, -5)),
         (
             29,
@@ -210,6 +243,17 @@ fn the_first_fault_answers(rt: HostRuntime) -> Result<(), Fail> {
         (35, b"Constraint.type=1", ModelFault::UnknownKind(1, 1)),
         (38, b"Constraint.valA=-1", ModelFault::BadValue(1)),
         (37, b"Constraint.type=61", ModelFault::BadValue(1)),
+    ];
+    for (i, (at, line, wanted)) in rows.iter().enumerate() {
+        assert_eq!(rt; fault(alloc, &[(*at, *line)])?, Some(*wanted), "row {i}");
+    }
+    Ok(())
+}
+
+#[test]
+fn all_together_are_refused(rt: HostRuntime) -> Result<(), Fail> {
+    let alloc = rt.alloc();
+    let rows: [(usize, &[u8], ModelFault); 4] = [
         (0, b"Group.h.v=00000003", ModelFault::NoSuch(1, 1)),
         (23, b"Request.h.v=00000009", ModelFault::NoSuch(1, 3)),
         (
@@ -233,7 +277,7 @@ fn the_first_fault_answers(rt: HostRuntime) -> Result<(), Fail> {
 fn of_two_faults_the_earlier_answers(rt: HostRuntime) -> Result<(), Fail> {
     let alloc = rt.alloc();
     // a key that doesn't read goes before a handle out of range, groups before parameters, a record before the next
-    let rows: [(usize, &[u8], usize, &[u8], ModelFault); 6] = [
+    let rows: [(usize, &[u8], usize, &[u8], ModelFault); 7] = [
         (
             4,
             b"Group.h.v=0",
@@ -268,6 +312,13 @@ fn of_two_faults_the_earlier_answers(rt: HostRuntime) -> Result<(), Fail> {
             24,
             b"Request.type=7",
             ModelFault::BadValue(0),
+        ),
+        (
+            35,
+            b"Constraint.type=1",
+            29,
+            b"Request.type=7",
+            ModelFault::UnknownKind(4, 7),
         ),
         (
             31,
