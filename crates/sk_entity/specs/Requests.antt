@@ -1,5 +1,5 @@
 -- What a request makes: its entities and its parameters, by SolveSpace's numbering of items.
-use Rattle.std.specs.Prelude.{◌==◌, ℕ, zero, suc, ◌+◌, ◌*◌, Bool, true, false, not, List, [], ◌∷◌, ◌++◌, if◌then◌else◌}
+use Rattle.std.specs.Prelude.{◌==◌, ℕ, zero, suc, ◌+◌, ◌*◌, ◌^◌, ℤ, pos, Bool, true, false, not, List, [], ◌∷◌, ◌++◌, if◌then◌else◌}
 use Rattle.sk_types.specs.declared.handle.EntityId.{EntityId}
 use Rattle.sk_types.specs.declared.handle.ParamId.{ParamId}
 use Rattle.sk_types.specs.declared.request.Request.{Request}
@@ -106,3 +106,12 @@ shaped_params r h =
 -- all parameters of a request, in rising handle order
 unfoldable pub request_params : Request → List ParamId
 request_params r = if r.kind == 101 then point_params r 0 else shaped_params r (shape_of r.kind)
+
+-- ---- where parameters start that aren't stored
+
+abbrev pub has_normal_in_space : Request → Bool
+has_normal_in_space r = if r.kind == 101 then false else (if in_plane r then false else (shape_of r.kind).has_normal)
+
+-- parameter 32 of a normal in space starts at 1, so that the normal has length 1; every other parameter starts at 0
+abbrev pub start_value : ℕ → Request → ℕ → ℤ
+start_value s r i = if i == 32 then (if has_normal_in_space r then pos (2 ^ s) else pos 0) else pos 0

@@ -8,11 +8,12 @@ mod params;
 mod shape;
 
 pub use entities::request_entities;
-pub use params::request_params;
+pub use params::{request_params, start_value};
 
 #[cfg(test)]
 mod tests {
-    use super::{request_entities, request_params};
+    use super::{request_entities, request_params, start_value};
+    use sk_num::Grid;
     use sk_types::{EntityId, GroupId, Request, RequestId};
     use std::test::Fail;
 
@@ -57,6 +58,15 @@ mod tests {
             0x40020, 0x40021, 0x40022, 0x40023,
         ];
         assert_eq!(rt; handles.as_slice(), wanted.as_slice());
+        Ok(())
+    }
+
+    #[test]
+    #[tactic(auto, using(sk_num::specs::Scale::scale_facts))]
+    fn a_normal_in_space_starts_with_length_one(rt: HostRuntime) -> Result<(), Fail> {
+        assert_eq!(rt; start_value::<36>(&arc(0), 32), Grid::one());
+        assert_eq!(rt; start_value::<36>(&arc(0), 33), Grid::zero());
+        assert_eq!(rt; start_value::<36>(&arc(0x0001_0000), 32), Grid::zero());
         Ok(())
     }
 }

@@ -2,9 +2,11 @@
 
 ghost use Rattle.std.specs.Prelude.{◌≡◌, ◌≤◌, ◌<◌, ◌++◌, ◌+◌, pos, IfOk, OnOk};
 ghost use Rattle.sk_types.specs.Standings.{request_standing};
-ghost use Rattle.sk_entity.specs.Requests.{point_params, request_params, each_below, param_item};
+ghost use Rattle.sk_num.specs.Scale.{IsScale};
+ghost use Rattle.sk_entity.specs.Requests.{point_params, request_params, each_below, param_item, has_normal_in_space as normal_in_space, start_value as start_of};
 
 use crate::shape::shape_of;
+use sk_num::Grid;
 use sk_types::{ParamId, Request, Standing};
 use std::alloc::{AllocError, Global};
 
@@ -55,4 +57,25 @@ pub fn request_params(alloc: Global, r: &Request) -> Result<Vec<ParamId>, AllocE
         params.push(ParamId::of_request(r.id, 64))?;
     }
     Ok(params)
+}
+
+fn has_normal_in_space(r: &Request) -> bool
+    ensures { result ≡ normal_in_space r.now }
+{
+    if r.kind == 101 || r.workplane.0 != 0 {
+        return false;
+    }
+    shape_of(r.kind).has_normal
+}
+
+/// The number at which the i-th parameter of a request starts where it isn't stored: 1 for the first number of a normal in
+/// space (parameter 32), which then has length 1, and 0 for any other.
+pub fn start_value<const S: u32>(r: &Request, i: u16) -> Grid<S>
+    requires { IsScale S }
+    ensures { result ≡ start_of S r.now i }
+{
+    if i == 32 && has_normal_in_space(r) {
+        return Grid::one();
+    }
+    Grid::zero()
 }
