@@ -78,6 +78,12 @@ const POINTS: &[u8] =
 const FREE: &[u8] =
     b"group 00000002 certified\nunknowns 4 retained 0 free 4\nradius 2^-32 bound 0 spread 0\nheld 00040010 00040011 00050010 00050011\n";
 
+/// A point at -0.0 and 5, in the place of the lines of the second point's two parameters.
+const MINUS_ZERO: &[u8] = b"Param.val=-0.0\nAddParam\n\nParam.h.v.=00050011\nParam.val=5\n";
+
+const MINUS_ZERO_REPORT: &[u8] =
+    b"group 00000002 certified\nunknowns 4 retained 1 free 3\nradius 2^-32 bound 44 spread 176\nheld 00040010 00050010 00050011\nparam 00040010 0.00000000000000000000\nparam 00040011 0.00000000000000000000\nparam 00050010 0.00000000000000000000\nparam 00050011 5.00000000000000000000\ncertified 1 of 1\n";
+
 /// The three reference workplanes.
 const REFERENCES: &[u8] =
     b"Request.h.v=00000001\nRequest.type=100\nRequest.group.v=00000001\nAddRequest\nRequest.h.v=00000002\nRequest.type=100\nRequest.group.v=00000001\nAddRequest\nRequest.h.v=00000003\nRequest.type=100\nRequest.group.v=00000001\nAddRequest\n";
@@ -184,6 +190,9 @@ fn models_that_are_reported(rt: HostRuntime) -> Result<(), Fail> {
         put.as_slice() == b"certified 0 of 0\n".as_slice(),
         "references alone"
     );
+    let (status, put) = reported(alloc, &with_lines(alloc, 14, 18, MINUS_ZERO, b"\n")?)?;
+    assert_eq!(rt; status, 0, "a minus before zero");
+    assert!(rt; put.as_slice() == MINUS_ZERO_REPORT, "a minus before zero");
     Ok(())
 }
 
