@@ -2,7 +2,7 @@
 -- A point's coordinates stand over 2^n, its residuals over 2^(n D), slopes over g = 2^(n (D - 1)), the cells of the matrix
 -- y over u = 2^s, and w u = 2^n. The radius of a column is r, in units of 2^-s. b bounds the row sums of slopes.
 use Rattle.std.specs.Prelude.{◌≡◌, ℕ, ◌<◌, ◌≤◌, ◌*◌, ℤ, pos, ◌-ℤ◌, ◌*ℤ◌, unsigned_abs}
-use Rattle.sk_whole.specs.Sums.{sum_to, total_to}
+use Rattle.sk_num.specs.Sums.{sum_to, total_to}
 use Rattle.sk_contraction.specs.Rest.{rest}
 
 -- for points of any type: their coordinates, residuals, slopes between two of them, and which lie in the box

@@ -5,8 +5,8 @@ use Rattle.std.proofs.lemmas.Bool.{cases_lt}
 use Rattle.std.specs.Prelude.{unsigned_abs}
 use Rattle.std.proofs.Math.IntN.{*ℤ_comm}
 use Rattle.std.proofs.Math.Nat.{mul-le-mul_right, mul-le-mul_left, mul-le-mul, le_of_mul-le-mul_right}
-use Rattle.sk_whole.specs.Whole.{*ℤ_assoc, *ℤ-+ℤ_left, *ℤ--ℤ_left, unsigned_abs-add, unsigned_abs-sub}
-use Rattle.sk_whole.specs.Sums.{sum_to, total_to, sum_to-same, sum_to-sub, sum_to-add, sum_to-times, sum_to-times_right, row-le_weights, row-le, term-le-total_to}
+use Rattle.sk_num.specs.Whole.{*ℤ_assoc, *ℤ-+ℤ_left, *ℤ--ℤ_left, unsigned_abs-add, unsigned_abs-sub}
+use Rattle.sk_num.specs.Sums.{sum_to, total_to, sum_to-same, sum_to-sub, sum_to-add, sum_to-times, sum_to-times_right, row-le_weights, row-le, term-le-total_to}
 use Rattle.sk_contraction.specs.Rest.{rest, rest_row, cut, cut-left, cut-small}
 use Rattle.sk_contraction.specs.Farthest.{farthest}
 use Rattle.sk_contraction.specs.Contracting.{Contracting}

@@ -1,6 +1,6 @@
 -- What this crate's functions promise.
 use Rattle.std.specs.Prelude.{ℕ, ◌<◌, ◌≤◌, ◌*◌, ℤ, ◌-ℤ◌, unsigned_abs}
-use Rattle.sk_whole.specs.Sums.{total_to}
+use Rattle.sk_num.specs.Sums.{total_to}
 use Rattle.sk_contraction.specs.Contracting.{Contracting}
 
 -- The point q of the box has residuals of at most 4 b units.

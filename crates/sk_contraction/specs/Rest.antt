@@ -2,8 +2,8 @@
 use Rattle.std.proofs.Common.{◌≡◌, ℕ, suc, ◌<◌, ◌≤◌, ◌*◌, ◌/◌, ap, ◌∙◌, ℤ, pos, negsuc, neg_ℤ, ◌-ℤ◌, ◌*ℤ◌, arith}
 use Rattle.std.proofs.lemmas.Int.{ints, quot-rem, rem_below}
 use Rattle.std.specs.Prelude.{unsigned_abs, int_div}
-use Rattle.sk_whole.specs.Whole.{*ℤ_assoc, *ℤ--ℤ_right}
-use Rattle.sk_whole.specs.Sums.{sum_to, unit_at, unit_row-at, sum_to-same, sum_to-sub, sum_to_assoc}
+use Rattle.sk_num.specs.Whole.{*ℤ_assoc, *ℤ--ℤ_right}
+use Rattle.sk_num.specs.Sums.{sum_to, unit_at, unit_row-at, sum_to-same, sum_to-sub, sum_to_assoc}
 
 -- the cells of n I - P Q
 abbrev pub rest : ℕ → ℤ → (ℕ → ℕ → ℤ) → (ℕ → ℕ → ℤ) → ℕ → ℕ → ℤ

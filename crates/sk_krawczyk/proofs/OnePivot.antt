@@ -3,7 +3,8 @@ use Rattle.std.proofs.Common.{◌≡◌, ℕ, zero, suc, ◌*◌, ◌^◌, ◌<�
 use Rattle.std.specs.Prelude.{unsigned_abs}
 use Rattle.std.proofs.lemmas.Bool.{lt-leb}
 use Rattle.std.proofs.lemmas.Int.{ints}
-use Rattle.sk_elim.specs.Elimination.{past_limit, Elimination, rounded_quotient, cell, is_flat, greatest_cell, best_column, eliminate_numbers}
+use Rattle.sk_elim.specs.Elimination.{past_limit, Elimination, cell, is_flat, greatest_cell, best_column, eliminate_numbers}
+use Rattle.sk_num.specs.Rounding.{rounded_quotient}
 use Rattle.sk_krawczyk.specs.declared.four.Four.{Four}
 use Rattle.sk_krawczyk.specs.OneRow.{list_of, row_of, single_pivot}
 

@@ -7,7 +7,8 @@ use Rattle.sk_num.specs.Ends.{Ends, point, mid, span_add, span_mul}
 use Rattle.sk_matrix.specs.Matrix.{of_both}
 use Rattle.sk_expr.specs.SpanValue.{span_value, span_slope}
 use Rattle.sk_expr.specs.System.{SystemAt}
-use Rattle.sk_elim.specs.Elimination.{Halt, past_limit, Elimination, cell, is_flat, greatest_cell, best_column, rounded_quotient, eliminate_numbers, eliminate}
+use Rattle.sk_elim.specs.Elimination.{Halt, past_limit, Elimination, cell, is_flat, greatest_cell, best_column, eliminate_numbers, eliminate}
+use Rattle.sk_num.specs.Rounding.{rounded_quotient}
 use Rattle.sk_krawczyk.specs.declared.four.Four.{Four}
 use Rattle.sk_krawczyk.specs.Box.{SquareSystem, square_system, newton_step, radius_exponent}
 use Rattle.sk_krawczyk.specs.IntervalTest.{Outcome, stops, fails, is_computed, conditions, certified, length_columns, suspect_spans, box_test, radius_test, step_test, elimination_test, slopes_at, slopes_test, interval_test}

@@ -8,7 +8,7 @@ use Rattle.std.proofs.lemmas.Int.{ints}
 use Rattle.sk_num.specs.Limit.{is_in_limit}
 use Rattle.sk_num.specs.Ends.{Ends, point, span_between, span_add, span_mul, least_product, greatest_product}
 use Rattle.sk_num.specs.Rounding.{floor_at, ceil_at}
-use Rattle.sk_elim.specs.Elimination.{cons_if, each_some}
+use Rattle.sk_num.specs.Each.{cons_if, each_some}
 use Rattle.sk_matrix.specs.Matrix.{of_both}
 
 module _ {A B : Type 0} (f : A → Option B) where

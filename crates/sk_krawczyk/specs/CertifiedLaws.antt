@@ -9,7 +9,8 @@ use Rattle.sk_num.specs.Ends.{Ends}
 use Rattle.sk_expr.specs.Poly.{Poly, number, IsInRange}
 use Rattle.sk_expr.specs.SpanValue.{span_value}
 use Rattle.sk_expr.specs.System.{SystemAt, ForcedPivot}
-use Rattle.sk_elim.specs.Elimination.{Elimination, cons_if, each_some}
+use Rattle.sk_elim.specs.Elimination.{Elimination}
+use Rattle.sk_num.specs.Each.{cons_if, each_some}
 use Rattle.sk_elim.specs.PivotLaws.{AreApart, eliminate-square}
 use Rattle.sk_elim.specs.EliminationLaws.{HasSolved, eliminate-solved, filter_range-below, filter_range-differ}
 use Rattle.sk_matrix.specs.MatrixLaws.{and-second}

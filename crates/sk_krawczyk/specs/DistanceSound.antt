@@ -7,7 +7,8 @@ use Rattle.std.proofs.lemmas.Bool.{ne_eqb}
 use Rattle.std.proofs.lemmas.List.Elements.{All-nil, All-cons}
 use Rattle.sk_num.specs.Ends.{Ends, mid}
 use Rattle.sk_expr.specs.Poly.{IsInRange}
-use Rattle.sk_elim.specs.Elimination.{Elimination, Progress, has_column, has_row, is_flat, cell_at, pivoted, pivot_taken, suspected, column_taken, free_step, steps, and_then, best_column, or_past_limit, elimination_of, finished, inverse_row, cons_if, each_some, augmented, eliminate_numbers, eliminate, greatest_cell}
+use Rattle.sk_elim.specs.Elimination.{Elimination, Progress, has_column, has_row, is_flat, cell_at, pivoted, pivot_taken, suspected, column_taken, free_step, steps, and_then, best_column, or_past_limit, elimination_of, finished, inverse_row, augmented, eliminate_numbers, eliminate, greatest_cell}
+use Rattle.sk_num.specs.Each.{cons_if, each_some}
 use Rattle.sk_elim.specs.EliminationLaws.{and_then-ok, or_past_limit-ok, map-some}
 use Rattle.sk_krawczyk.specs.IntervalTest.{Outcome, stops, fails, passes, Certificate, suspects_of, slopes_at, interval_test}
 use Rattle.sk_krawczyk.specs.Box.{at_column}

@@ -2,13 +2,14 @@
 use Rattle.std.specs.Prelude.{ℕ, zero, suc, ◌+◌, ◌-◌, ◌*◌, ◌/◌, ◌^◌, max, min, List, [], ◌∷◌, map, length, get_or, ℤ, pos, ◌-ℤ◌, Option, Some, None, Result, Ok, Err, Bool, not, nat_le, is_some, ◌&&◌, ◌||◌, if◌then◌else◌}
 use Rattle.std.specs.Int.{is_negative, is_positive}
 use Rattle.std.specs.List.{range_with_len, filter, list_all}
-use Rattle.sk_whole.specs.Sums.{total_to}
+use Rattle.sk_num.specs.Sums.{total_to}
 use Rattle.sk_num.specs.Limit.{is_in_limit}
 use Rattle.sk_num.specs.Ends.{Ends, point, mid}
 use Rattle.sk_expr.specs.Poly.{Poly, number}
 use Rattle.sk_expr.specs.SpanValue.{span_value, span_slope}
 use Rattle.sk_expr.specs.System.{SystemAt}
-use Rattle.sk_elim.specs.Elimination.{Halt, past_limit, Elimination, each_some, eliminate}
+use Rattle.sk_elim.specs.Elimination.{Halt, past_limit, Elimination, eliminate}
+use Rattle.sk_num.specs.Each.{each_some}
 use Rattle.sk_matrix.specs.Matrix.{mag_or, row_sum, row_sums, row_sums_plain, all_to, is_whole}
 use Rattle.sk_matrix.specs.Cells.{listed}
 use Rattle.sk_krawczyk.specs.Box.{SquareSystem, square_system, newton_step, radius_exponent, reach, box, slope_over, left_rest, right_rest}

@@ -4,7 +4,8 @@ use Rattle.std.specs.Prelude.{not, nat_le, if◌then◌else◌}
 use Rattle.std.specs.List.{range_with_len}
 use Rattle.sk_num.specs.Ends.{Ends, mid}
 use Rattle.sk_expr.specs.System.{SystemAt}
-use Rattle.sk_elim.specs.Elimination.{Halt, past_limit, Elimination, each_some, eliminate}
+use Rattle.sk_elim.specs.Elimination.{Halt, past_limit, Elimination, eliminate}
+use Rattle.sk_num.specs.Each.{each_some}
 use Rattle.sk_krawczyk.specs.Box.{SquareSystem, square_system, newton_step, radius_exponent, box}
 use Rattle.sk_krawczyk.specs.IntervalTest.{Outcome, stops, fails, passes, Certificate, radii, is_computed, conditions, certificate, certified, suspect_spans, suspects_of, length_columns, box_test, radius_test, step_test, elimination_test, slopes_at, slopes_test, interval_test}
 

@@ -7,7 +7,7 @@ use Rattle.std.proofs.lemmas.Bool.{cases_lt, leb-true}
 use Rattle.std.proofs.lemmas.List.{length-append}
 use Rattle.std.proofs.Math.Seq.{get_or-append_seam}
 use Rattle.std.proofs.Math.ListN.{get_or-append}
-use Rattle.sk_whole.specs.Sums.{last_or_before}
+use Rattle.sk_num.specs.Sums.{last_or_before}
 use Rattle.sk_num.specs.Limit.{is_in_limit}
 use Rattle.sk_num.specs.Ends.{Ends}
 use Rattle.sk_expr.specs.Poly.{Poly, degree}

@@ -3,7 +3,7 @@ use Rattle.std.proofs.Common.{ℕ, ◌^◌, ℤ, ◌≤ℤ◌, ◌*ℤ◌, arith
 use Rattle.std.proofs.lemmas.Int.{ints, clamps}
 use Rattle.std.proofs.lemmas.Nat.{pow_pos}
 use Rattle.std.specs.Int.{int_min, int_max}
-use Rattle.sk_whole.specs.Division.{floor_by-le-ceil_by}
+use Rattle.sk_num.specs.Division.{floor_by-le-ceil_by}
 use Rattle.sk_num.specs.Rounding.{floor_at, ceil_at}
 use Rattle.sk_num.specs.Ends.{Ends, least_product, greatest_product}
 

@@ -1,4 +1,4 @@
 pub mod EndsLemmas
 pub mod RootLemmas
-pub mod SpellingLemmas
-pub mod ReadBack
+pub mod Capped
+pub mod Weights

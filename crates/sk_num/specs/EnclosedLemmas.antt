@@ -7,8 +7,8 @@ use Rattle.std.specs.Int.{int_min, int_max}
 use Rattle.std.specs.Int.Signed.{≤ℤ_refl}
 use Rattle.std.proofs.Math.IntN.{zero-*ℤ}
 use Rattle.std.proofs.lemmas.Option.{cond_some}
-use Rattle.sk_whole.specs.Whole.{*ℤ-+ℤ_right, *ℤ--ℤ_right, +ℤ-le, -ℤ-le, ≤ℤ_trans, *ℤ-le_pos, *ℤ-le_cancel, product-above_corners, product-below_corners, *ℤ_swap, *ℤ_turn, *ℤ_assoc}
-use Rattle.sk_whole.specs.Division.{floor_by-below, ceil_by-above}
+use Rattle.sk_num.specs.Whole.{*ℤ-+ℤ_right, *ℤ--ℤ_right, +ℤ-le, -ℤ-le, ≤ℤ_trans, *ℤ-le_pos, *ℤ-le_cancel, product-above_corners, product-below_corners, *ℤ_swap, *ℤ_turn, *ℤ_assoc}
+use Rattle.sk_num.specs.Division.{floor_by-below, ceil_by-above}
 use Rattle.sk_num.specs.Limit.{is_in_limit}
 use Rattle.sk_num.specs.Rounding.{floor_at, ceil_at}
 use Rattle.sk_num.specs.Ends.{Ends, point, span_between, span_add, span_sub, span_mul, least_product, greatest_product}

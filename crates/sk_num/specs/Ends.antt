@@ -2,7 +2,7 @@
 -- Systems of Equations, chapter 1: interval arithmetic rounded outward).
 use Rattle.std.specs.Prelude.{ℕ, max, ℤ, ◌+ℤ◌, ◌-ℤ◌, ◌*ℤ◌, ◌≤ℤ◌, unsigned_abs, ◌&&◌, if◌then◌else◌, Option, Some, None}
 use Rattle.std.specs.Int.{int_min, int_max}
-use Rattle.sk_whole.specs.Division.{floor_by}
+use Rattle.sk_num.specs.Division.{floor_by}
 use Rattle.sk_num.specs.Limit.{IsInLimit, is_in_limit}
 use Rattle.sk_num.specs.Rounding.{floor_at, ceil_at}
 

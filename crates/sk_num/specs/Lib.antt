@@ -1,3 +1,7 @@
+pub mod Whole
+pub mod Division
+pub mod Sums
+pub mod WholeLaws
 pub mod Scale
 pub mod Limit
 pub mod Rounding
@@ -6,5 +10,13 @@ pub mod Enclosed
 pub mod KernelLaws
 pub mod EnclosedLemmas
 pub mod SpanLaws
+pub mod Numerals
 pub mod Decimals
+pub mod Drafts
+pub mod PaddedLaws
+pub mod DecimalLaws
+pub mod DecimalUnits
 pub mod Spelling
+pub mod SpellingLemmas
+pub mod SpellingLaws
+pub mod Each

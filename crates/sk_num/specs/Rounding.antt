@@ -1,6 +1,7 @@
--- Numbers of units from exact ones: division by 2^s, rounded outward.
-use Rattle.std.specs.Prelude.{ℕ, ◌^◌, ℤ, pos, ◌*ℤ◌, ◌≤ℤ◌}
-use Rattle.sk_whole.specs.Division.{floor_by, ceil_by}
+-- Numbers of units from exact ones: rounded outward, or to the nearest.
+use Rattle.std.specs.Prelude.{ℕ, ◌^◌, ℤ, pos, ◌*ℤ◌, ◌≤ℤ◌, Option}
+use Rattle.sk_num.specs.Division.{floor_by, ceil_by, nearest}
+use Rattle.sk_num.specs.Limit.{grid_of}
 
 -- z / 2^s, rounded down
 abbrev pub floor_at : ℕ → ℤ → ℤ
@@ -14,3 +15,10 @@ ceil_at s z = ceil_by z (2 ^ s)
 pub record IsRoot (s : ℕ) (a r : ℤ) : Type 0 where
   pub below : (r *ℤ r) ≤ℤ (a *ℤ pos (2 ^ s))
   pub greatest : (z : ℤ) → (z *ℤ z) ≤ℤ (a *ℤ pos (2 ^ s)) → z ≤ℤ r
+
+-- product and quotient of two numbers of units, to the nearest unit, halves away from zero; none past the limit
+abbrev pub rounded_product : ℕ → ℤ → ℤ → Option ℤ
+rounded_product s a b = grid_of (nearest (a *ℤ b) (pos (2 ^ s)))
+
+abbrev pub rounded_quotient : ℕ → ℤ → ℤ → Option ℤ
+rounded_quotient s a b = grid_of (nearest (a *ℤ pos (2 ^ s)) b)

@@ -1,20 +1,20 @@
 -- The scale s of a grid: its unit is 2^-s millimetre, or 2^-s of a plain number.
 use Rattle.std.specs.Prelude.{◌≡◌, ℕ, ◌≤◌, refl}
-use Rattle.std.proofs.Common.{arith}
+use Rattle.std.proofs.Common.{arith, ◌⊎◌, inl, inr}
 
--- the scales that the crates above are written for
+-- the scales of this project: the plain grid and the finer one
 pub record IsScale (s : ℕ) : Type 0 where
-  is_known : s ≡ 36
+  is_known : (s ≡ 36) ⊎ (s ≡ 44)
 
 pub IsScale-36 : IsScale 36
-IsScale-36 = record { is_known = refl }
+IsScale-36 = record { is_known = inl refl }
 
+pub IsScale-44 : IsScale 44
+IsScale-44 = record { is_known = inr refl }
+
+-- all that a proof above uses of a scale
 pub IsScale-bounds : {s : ℕ} → IsScale s → (36 ≤ s) × (s ≤ 44)
-IsScale-bounds {s} h = omega (arith, h.is_known)
-
--- for the table of the cosine alone: each other proof uses the two facts above
-pub IsScale-value : {s : ℕ} → IsScale s → s ≡ 36
-IsScale-value h = h.is_known
+IsScale-bounds {s} h = elim h.is_known [ inl e ↦ omega (arith, e) | inr e ↦ omega (arith, e) ]
 
 -- for calls at a literal scale
-pub ruleset scale_facts = IsScale-36
+pub ruleset scale_facts = (IsScale-36, IsScale-44)

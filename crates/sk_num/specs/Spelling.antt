@@ -1,10 +1,10 @@
 -- Numbers as texts: quantities in decimal, handles in hexadecimal, whole numbers.
 use Rattle.std.specs.Prelude.{◌≡◌, ℕ, ◌+◌, ◌*◌, ◌/◌, ◌%◌, ◌^◌, ◌==◌, Bool, true, false, nat_le, nat_lt, List, [], ◌∷◌, length, ℤ, pos, ◌*ℤ◌, unsigned_abs, Option, Some, None, option_map, Result, Ok, Err, if◌then◌else◌}
 use Rattle.std.specs.Int.{is_negative}
-use Rattle.sk_digits.specs.declared.decimal.Decimal.{Decimal}
-use Rattle.sk_digits.specs.Numerals.{numeral}
-use Rattle.sk_digits.specs.Decimals.{decimal_of, decimal_text}
-use Rattle.sk_whole.specs.Division.{nearest, signed}
+use Rattle.sk_num.specs.declared.decimal.Decimal.{Decimal}
+use Rattle.sk_num.specs.Numerals.{numeral}
+use Rattle.sk_num.specs.Decimals.{decimal_of, decimal_text}
+use Rattle.sk_num.specs.Division.{nearest, signed}
 use Rattle.sk_num.specs.declared.fault.NumFault.{NumFault}
 use Rattle.sk_num.specs.declared.fault.NumFault.TheVariants.{BadNumber, OutOfGrid}
 use Rattle.sk_num.specs.Limit.{IsInLimit, is_in_limit}

@@ -1,12 +1,12 @@
 ghost use Rattle.std.specs.Prelude.{◌≡◌, ◌↔◌, ◌^◌, ◌<◌, ◌≤◌, ℤ, IsSome, IfSome, ◌+ℤ◌, ◌-ℤ◌, ◌*ℤ◌, unsigned_abs, pos};
-ghost use Rattle.sk_num.specs.Limit.{IsInLimit};
+ghost use Rattle.sk_num.specs.Limit.{IsInLimit, grid_of};
 ghost use Rattle.sk_num.specs.Scale.{IsScale};
 
 use std::marker::Model;
 
 /// A whole number of units, of which 2^S are a millimetre, at most 2^62 either way. Contracts see
 /// the number of units.
-#[derive(Clone, Copy, Debug, PartialEq, Eq, PartialOrd, Ord)]
+#[derive(Clone, Copy, Debug, PartialEq, Eq, PartialOrd, Ord, Hash)]
 pub struct Grid<const S: u32> {
     units: i64,
 }
@@ -54,6 +54,25 @@ impl<const S: u32> Grid<S> {
         ensures { result ≡ pos (2 ^ S) }
     {
         Grid::small(one::<S>())
+    }
+
+    /// The whole number `n`.
+    pub fn whole(n: i16) -> Grid<S>
+        requires { IsScale S }
+        ensures { result ≡ n *ℤ pos (2 ^ S) }
+    {
+        Grid::small(n as i128 * one::<S>())
+    }
+
+    /// The number of that many units; None exactly past the limit.
+    pub fn of_wide(units: i128) -> Option<Grid<S>>
+        ensures { result ≡ grid_of units }
+    {
+        let limit = 1i128 << 62;
+        if units < -limit || units > limit {
+            return None;
+        }
+        Grid::from_units(units as i64)
     }
 }
 

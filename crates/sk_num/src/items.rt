@@ -1,4 +1,4 @@
-ghost use Rattle.std.specs.Prelude.{◌≡◌, ◌<◌, length, slice_set, IfOk, string_bytes};
+ghost use Rattle.std.specs.Prelude.{◌≡◌, ◌<◌, length, slice_set, IfOk, OnOk, OnErr, ◌++◌, ◌∷◌, [], string_bytes};
 
 use std::alloc::{AllocError, Global};
 use std::marker::Model;
@@ -51,6 +51,15 @@ impl<T: Drop> Items<T> {
         ensures { self.new ≡ slice_set self.old at x }
     {
         self.items[at] = x;
+    }
+
+    /// Puts `x` behind the last element.
+    pub fn push(&mut self, x: T) -> Result<(), AllocError>
+        ensures pushed { OnOk result (self.new ≡ self.old ++ x ∷ []) }
+        ensures kept { OnErr result (self.new ≡ self.old) }
+    {
+        self.items.push(x)?;
+        Ok(())
     }
 }
 

@@ -1,6 +1,7 @@
-ghost use Rattle.std.specs.Prelude.{◌≡◌, ◌≢◌, ◌<◌, ◌+◌, ◌*◌, ◌/◌, ◌^◌, ◌≤◌, ℤ, pos, ◌*ℤ◌, unsigned_abs};
-ghost use Rattle.sk_whole.specs.Division.{nearest, signed, IsNearest};
+ghost use Rattle.std.specs.Prelude.{◌≡◌, ◌≢◌, ◌<◌, ◌+◌, ◌*◌, ◌/◌, ◌^◌, ◌≤◌, ℤ, pos, ◌*ℤ◌, unsigned_abs, IfSome};
+ghost use Rattle.sk_num.specs.Division.{nearest, signed, IsNearest};
 ghost use Rattle.sk_num.specs.Limit.{grid_of};
+ghost use Rattle.sk_num.specs.Rounding.{rounded_product, rounded_quotient};
 ghost use Rattle.sk_num.specs.Scale.{IsScale};
 
 use crate::grid::{Grid, one};
@@ -40,10 +41,9 @@ fn nearest_grid<const S: u32>(p: i128, q: i128) -> Option<Grid<S>>
 /// The product, rounded to the nearest unit, halves away from zero; None exactly past the limit.
 pub fn rmul<const S: u32>(a: Grid<S>, b: Grid<S>) -> Option<Grid<S>>
     requires { IsScale S }
-    ensures value { result ≡ grid_of (nearest (a.entry *ℤ b.entry) (pos (2 ^ S))) }
-    // a b 2^-S is nearest to that number of units
-    ensures nearest { let p = a.entry *ℤ b.entry in
-        IsNearest p (pos (2 ^ S)) (nearest p (pos (2 ^ S))) }
+    ensures value { result ≡ rounded_product S a.entry b.entry }
+    // a b 2^-S is nearest to what is answered
+    ensures nearest { IfSome result (λ g. IsNearest (a.entry *ℤ b.entry) (pos (2 ^ S)) g) }
 {
     let one = one::<S>();
     nearest_grid(a.times(b), one)
@@ -53,10 +53,9 @@ pub fn rmul<const S: u32>(a: Grid<S>, b: Grid<S>) -> Option<Grid<S>>
 pub fn rdiv<const S: u32>(a: Grid<S>, b: Grid<S>) -> Option<Grid<S>>
     requires scale { IsScale S }
     requires not_zero { b ≢ pos 0 }
-    ensures value { result ≡ grid_of (nearest (a.entry *ℤ pos (2 ^ S)) b.entry) }
-    // a 2^S / b is nearest to that number of units
-    ensures nearest { let p = a.entry *ℤ pos (2 ^ S) in
-        IsNearest p b.entry (nearest p b.entry) }
+    ensures value { result ≡ rounded_quotient S a.entry b.entry }
+    // a 2^S / b is nearest to what is answered
+    ensures nearest { IfSome result (λ g. IsNearest (a.entry *ℤ pos (2 ^ S)) b.entry g) }
 {
     nearest_grid(a.scaled(), b.wide())
 }

@@ -1,16 +1,17 @@
-ghost use Rattle.std.specs.Prelude.{◌≡◌, ℕ, ◌≤◌, ◌<◌, ◌^◌, ◌*ℤ◌, ℤ, pos, take, slice_index, IfSome, Ok};
-ghost use Rattle.sk_digits.specs.Decimals.{decimal_of};
-ghost use Rattle.sk_whole.specs.Division.{nearest, IsNearest};
-ghost use Rattle.sk_digits.specs.Numerals.{padded};
+ghost use Rattle.std.specs.Prelude.{◌≡◌, ℕ, ◌≤◌, ◌<◌, ◌^◌, ◌*ℤ◌, ℤ, pos, take, slice_index, IfSome, IfOk, Ok};
+ghost use Rattle.sk_num.specs.Decimals.{decimal_of};
+ghost use Rattle.sk_num.specs.Division.{IsNearest};
+ghost use Rattle.sk_num.specs.Numerals.{padded};
 ghost use Rattle.sk_num.specs.Limit.{IsInLimit};
 ghost use Rattle.sk_num.specs.Scale.{IsScale};
-ghost use Rattle.sk_num.specs.Spelling.{numerator, units_of, quantity_of, quantity_text, QuantityLaw, handle_of, whole_of};
-ghost use Rattle.sk_num.specs.Decimals.{magnitude_at, decimal_at};
+ghost use Rattle.sk_num.specs.Spelling.{numerator, quantity_of, quantity_text, QuantityLaw, handle_of, whole_of};
+ghost use Rattle.sk_num.specs.DecimalUnits.{magnitude_at, decimal_at};
 
+use crate::decimal::{Decimal, decimal_text, read_decimal};
 use crate::fault::NumFault;
 use crate::grid::{Grid, unsigned_one};
+use crate::numeral::{hexadecimal_text, read_numeral};
 use crate::rounding::signed_grid;
-use sk_digits::{Decimal, decimal_text, hexadecimal_text, read_decimal, read_numeral};
 
 /// How many decimals a quantity text has, as a power of ten.
 const DECIMALS: u128 = 100_000_000_000_000_000_000;
@@ -36,8 +37,9 @@ pub struct QuantityText {
 pub fn read_quantity<const S: u32>(t: &[u8]) -> Result<Grid<S>, NumFault>
     requires { IsScale S }
     ensures value { result ≡ quantity_of S t.now }
-    // the number of the text, N / 10^20, is N 2^S / 10^20 units, and that many units are nearest
-    ensures nearest { IfSome (decimal_of t.now) (λ d. IsNearest (numerator d *ℤ pos (2 ^ S)) (pos (10 ^ 20)) (units_of S d)) }
+    // the number of the text, N / 10^20, is N 2^S / 10^20 units, and what is answered is nearest to it
+    ensures nearest { IfSome (decimal_of t.now) (λ d. IfOk result (λ g.
+        IsNearest (numerator d *ℤ pos (2 ^ S)) (pos (10 ^ 20)) g)) }
 {
     let d = read_decimal(t, MOST).ok_or(NumFault::BadNumber)?;
     let magnitude = rounded_units::<S>(&d);
@@ -63,9 +65,9 @@ pub fn quantity_text<const S: u32>(g: Grid<S>) -> QuantityText
     ensures text { take result.len result.bytes ≡ quantity_text S g.entry }
     ensures short { result.len ≤ 40 }
     ensures rest { (k : ℕ) → result.len ≤ k → slice_index result.bytes k ≡ 0 }
-    // g 2^-S is that many times 10^-20, to the nearest
-    ensures nearest { let p = g.entry *ℤ pos (10 ^ 20) in
-        IsNearest p (pos (2 ^ S)) (nearest p (pos (2 ^ S))) }
+    // g 2^-S is g 10^20 / 2^S times 10^-20, and the number that the text writes is nearest to it
+    ensures nearest { IfSome (decimal_of (take result.len result.bytes)) (λ d.
+        IsNearest (g.entry *ℤ pos (10 ^ 20)) (pos (2 ^ S)) (numerator d)) }
     ensures read_back { quantity_of S (take result.len result.bytes) ≡ Ok g.entry }
 {
     let d = nearest_decimal(g);

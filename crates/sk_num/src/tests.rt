@@ -96,7 +96,9 @@ fn quantities_are_read_and_written(rt: HostRuntime) {
     }
     assert!(rt; read_quantity::<36>(b"67108864").ok() == Grid::from_units(1 << 62));
     assert!(rt; read_quantity::<36>(b"67108864.00000000001") == Err(NumFault::OutOfGrid));
-    assert!(rt; read_quantity::<36>(b"1e3") == Err(NumFault::BadNumber));
+    for bad in [b"".as_slice(), b"-", b"3.", b".5", b"1e3", b"+1", b"--1"] {
+        assert!(rt; read_quantity::<36>(bad) == Err(NumFault::BadNumber));
+    }
     assert!(rt; read_handle(b"8002000A") == Ok(0x8002_000a));
     assert!(rt; handle_text(0x8002_000a) == *b"8002000a");
     assert!(rt; read_whole(b"-2147483648") == Ok(i32::MIN));

@@ -2,9 +2,10 @@ use Rattle.std.proofs.Common.{◌≡◌, ap, sym, ◌∙◌, ℤ, pos, ◌^◌}
 use Rattle.std.specs.Prelude.{unsigned_abs, true, false, ◌*ℤ◌}
 use Rattle.std.proofs.Common.{int_eq, arith}
 use Rattle.std.proofs.lemmas.Int.{ints}
-use Rattle.sk_whole.specs.Division.{nearest}
+use Rattle.sk_num.specs.Division.{nearest}
 use Rattle.sk_num.specs.Limit.{grid_of}
-use Rattle.sk_elim.specs.Elimination.{cell, rounded_quotient}
+use Rattle.sk_elim.specs.Elimination.{cell}
+use Rattle.sk_num.specs.Rounding.{rounded_quotient}
 use Rattle.sk_krawczyk.specs.OneRow.{row_of}
 use Rattle.sk_krawczyk.proofs.OnePivot.{flat-zero, flat-other}
 use Rattle.sk_krawczyk.proofs.OneRow.{test-past_slopes, test-flat, test-past_quotient, test-pivot}

@@ -2,7 +2,7 @@ use Rattle.std.proofs.Common.{◌≡◌, arith, ◌≤◌, ◌^◌, pos, ◌*ℤ
 use Rattle.std.specs.Prelude.{unsigned_abs}
 use Rattle.std.proofs.lemmas.Int.{ints}
 use Rattle.std.proofs.Math.IntN.{zero-*ℤ}
-use Rattle.sk_whole.specs.Whole.{*ℤ-le_pos}
+use Rattle.sk_num.specs.Whole.{*ℤ-le_pos}
 use Rattle.sk_num.specs.Rounding.{IsRoot}
 use Rattle.sk_num.proofs.RootLemmas.{root_is, root_small}
 use Rattle.sk_num.proofs.roots.root.Goals as goal

@@ -1,5 +1,5 @@
 use Rattle.std.proofs.Common.{length, ap, ◌∙◌, refl}
-use Rattle.sk_digits.proofs.Padded.{length-padded}
+use Rattle.sk_num.specs.PaddedLaws.{length-padded}
 use Rattle.sk_num.specs.Spelling.{handle_of}
 use Rattle.sk_num.proofs.spelling.handle_text.Goals as goal
 

@@ -1,4 +1,4 @@
-use Rattle.sk_num.proofs.ReadBack.{quantity-read_back}
+use Rattle.sk_num.specs.SpellingLaws.{quantity-read_back}
 use Rattle.sk_num.proofs.spelling.quantity_law.Goals as goal
 
 pub returns : goal.returns

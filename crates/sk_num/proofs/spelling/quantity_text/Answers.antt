@@ -1,10 +1,11 @@
-use Rattle.std.proofs.Common.{ap, sym, ◌∙◌, pos, ◌*ℤ◌, ◌^◌}
-use Rattle.sk_digits.specs.declared.decimal.Decimal.{Decimal}
-use Rattle.sk_digits.specs.Decimals.{decimal_text}
+use Rattle.std.proofs.Common.{ap, sym, ◌∙◌, pos, ◌*ℤ◌, ◌^◌, Some, subst}
+use Rattle.std.specs.Prelude.{IfSome}
+use Rattle.sk_num.specs.declared.decimal.Decimal.{Decimal}
+use Rattle.sk_num.specs.Decimals.{decimal_text}
 use Rattle.std.proofs.lemmas.Nat.{pow_pos}
-use Rattle.sk_whole.specs.Division.{nearest_is}
-use Rattle.sk_num.specs.Spelling.{quantity_of, quantity_text, read_as, in_grid, units_of}
-use Rattle.sk_num.proofs.SpellingLemmas.{units-back, decimal_at-is, in_grid-known}
+use Rattle.sk_num.specs.Division.{nearest, nearest_is, IsNearest}
+use Rattle.sk_num.specs.Spelling.{quantity_of, quantity_text, read_as, in_grid, units_of, numerator}
+use Rattle.sk_num.specs.SpellingLemmas.{units-back, decimal_at-is, in_grid-known, numerator-from}
 use Rattle.sk_num.proofs.spelling.quantity_text.Goals as goal
 
 pub returns-clause-text : goal.returns-clause-text
@@ -22,4 +23,11 @@ returns-clause-read_back g c =
     ∙ in_grid-known z d.fits
 
 pub returns-clause-nearest : goal.returns-clause-nearest
-returns-clause-nearest g c = nearest_is (c.args.g *ℤ pos (10 ^ 20)) (pos (2 ^ g.row.S)) (pow_pos g.row.S)
+returns-clause-nearest g c =
+    let d = c.nearest_decimal-d.ensures in
+    let n = nearest (c.args.g *ℤ pos (10 ^ 20)) (pos (2 ^ g.row.S)) in
+    let e = d.value ∙ sym (decimal_at-is g.row.S c.args.g c.requires) in
+    subst (λ o. IfSome o (λ (w : Decimal). IsNearest (c.args.g *ℤ pos (10 ^ 20)) (pos (2 ^ g.row.S)) (numerator w)))
+    (sym (c.decimal_text-len.ensures.read_back d.decimals ∙ ap Some e))
+    (subst (IsNearest (c.args.g *ℤ pos (10 ^ 20)) (pos (2 ^ g.row.S))) (sym (numerator-from n))
+    (nearest_is (c.args.g *ℤ pos (10 ^ 20)) (pos (2 ^ g.row.S)) (pow_pos g.row.S)))

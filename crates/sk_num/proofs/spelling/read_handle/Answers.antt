@@ -1,7 +1,7 @@
 use Rattle.std.proofs.Common.{length, sym, ◌∙◌, arith, refl}
-use Rattle.sk_digits.specs.Numerals.{numeral}
+use Rattle.sk_num.specs.Numerals.{numeral}
 use Rattle.sk_num.specs.Spelling.{handle_of}
-use Rattle.sk_num.proofs.SpellingLemmas.{handle-read, short-text}
+use Rattle.sk_num.specs.SpellingLemmas.{handle-read, short-text}
 use Rattle.sk_num.proofs.spelling.read_handle.Goals as goal
 
 pub overflow_cast-result : goal.overflow_cast-result

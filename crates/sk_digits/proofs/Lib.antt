@@ -1,4 +1,0 @@
-pub mod Capped
-pub mod Padded
-pub mod Weights
-pub mod ReadBack

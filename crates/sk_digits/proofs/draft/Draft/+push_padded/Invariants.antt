@@ -1,4 +1,0 @@
-use Rattle.sk_digits.proofs.draft.Draft.+push_padded.Given as goal
-
-abbrev pub decreases-push_padded : goal.decreases-push_padded
-decreases-push_padded l = l.width

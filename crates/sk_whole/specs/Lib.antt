@@ -1,4 +1,0 @@
-pub mod Whole
-pub mod Division
-pub mod Sums
-pub mod Laws
