@@ -1,12 +1,12 @@
 // The entities of a request.
 
-ghost use Rattle.std.specs.Prelude.{◌≡◌, ◌≤◌, ◌<◌, pos, IfOk};
-ghost use Rattle.sk_types.specs.Standings.{request_standing};
-ghost use Rattle.sk_entity.specs.Requests.{bare, point_kind, point_of, normal_of, distance_of, curve_of, request_entities, entity_item, param_item, each_below};
+ghost use Rattle.std.specs.Prelude.{◌≡◌, ◌≤◌, ◌<◌, ℕ, IfOk, length};
+ghost use Rattle.sk_types.specs.Lists.{each_below};
+ghost use Rattle.sk_entity.specs.Requests.{bare, point_kind, point_of, normal_of, distance_of, curve_of, request_entities, entity_item, param_item, part_count};
 
 use crate::shape::{Shape, shape_of};
 use sk_num::Items;
-use sk_types::{Entity, EntityId, Numbering, ParamId, Request, Standing};
+use sk_types::{Entity, EntityId, Numbering, ParamId, Request, entity_kind, request_kind};
 use std::alloc::{AllocError, Global};
 
 // No entity.
@@ -40,7 +40,11 @@ fn bare<const S: u32>(
 fn point_kind(r: &Request) -> u16
     ensures { result ≡ point_kind r.now }
 {
-    if r.workplane.0 == 0 { 2000 } else { 2001 }
+    if r.workplane.0 == 0 {
+        entity_kind::POINT_IN_SPACE
+    } else {
+        entity_kind::POINT_IN_WORKPLANE
+    }
 }
 
 fn own<const S: u32>(r: &Request, item: u16) -> Numbering<S>
@@ -52,7 +56,7 @@ fn own<const S: u32>(r: &Request, item: u16) -> Numbering<S>
 
 fn point<const S: u32>(alloc: Global, r: &Request, i: u16) -> Entity<S>
     requires known { r.now.id.0 ≤ 32767 }
-    requires few { i < 3 }
+    requires few { i < 259 }
     ensures { result ≡ point_of S r.now i }
 {
     bare(alloc, r, i + 1, point_kind(r), false, own(r, 16 + 3 * i))
@@ -63,16 +67,30 @@ fn normal<const S: u32>(alloc: Global, r: &Request) -> Entity<S>
     ensures { result ≡ normal_of S r.now }
 {
     if r.workplane.0 == 0 {
-        bare(alloc, r, 32, 3000, false, own(r, 32))
+        bare(
+            alloc,
+            r,
+            32,
+            entity_kind::NORMAL_IN_SPACE,
+            false,
+            own(r, 32),
+        )
     } else {
-        bare(alloc, r, 32, 3001, false, Numbering::Nothing)
+        bare(
+            alloc,
+            r,
+            32,
+            entity_kind::NORMAL_IN_WORKPLANE,
+            false,
+            Numbering::Nothing,
+        )
     }
 }
 
 // Entity 0, which names the others.
 fn curve<const S: u32>(alloc: Global, r: &Request, shape: &Shape) -> Result<Entity<S>, AllocError>
     requires known { r.now.id.0 ≤ 32767 }
-    requires few { shape.now.points ≤ 3 }
+    requires few { shape.now.points ≤ 259 }
     ensures { IfOk result (λ e. e ≡ curve_of S r.now shape.now) }
 {
     let mut points = Vec::new(alloc);
@@ -102,22 +120,23 @@ fn curve<const S: u32>(alloc: Global, r: &Request, shape: &Shape) -> Result<Enti
     })
 }
 
-/// The entities of a request of an accepted kind, in rising handle order.
+/// The entities of a request, in rising handle order; none where its number isn't known.
 #[tactic(auto, unfolding(crate::specs::Requests::request_entities))]
 pub fn request_entities<const S: u32>(
     alloc: Global,
     r: &Request,
 ) -> Result<Vec<Entity<S>>, AllocError>
-    requires accepted { request_standing (pos r.now.kind) ≡ Standing.Accepted }
-    requires known { r.now.id.0 ≤ 32767 }
+    requires { r.now.id.0 ≤ 32767 }
     ensures { IfOk result (λ v. v.items ≡ request_entities S r.now) }
 {
     let mut entities = Vec::new(alloc);
-    if r.kind == 101 {
+    if r.kind == request_kind::DATUM_POINT {
         entities.push(bare(alloc, r, 0, point_kind(r), r.construction, own(r, 16)))?;
         return Ok(entities);
     }
-    let shape = shape_of(r.kind);
+    let Some(shape) = shape_of(r) else {
+        return Ok(entities);
+    };
     entities.push(curve(alloc, r, &shape)?)?;
     for i in 0..shape.points {
         entities.push(point(alloc, r, i))?;
@@ -126,7 +145,31 @@ pub fn request_entities<const S: u32>(
         entities.push(normal(alloc, r))?;
     }
     if shape.has_distance {
-        entities.push(bare(alloc, r, 64, 4000, false, own(r, 64)))?;
+        entities.push(bare(alloc, r, 64, entity_kind::DISTANCE, false, own(r, 64)))?;
     }
     Ok(entities)
+}
+
+/// How many entities a request makes.
+#[tactic(auto, unfolding(crate::specs::Requests::request_entities))]
+pub fn entity_count(r: &Request) -> usize
+    ensures count { (s : ℕ) → result ≡ length (request_entities s r.now) }
+    ensures few { result ≤ 262 }
+{
+    if r.kind == request_kind::DATUM_POINT {
+        return 1;
+    }
+    match shape_of(r) {
+        Some(shape) => count_of(&shape),
+        None => 0,
+    }
+}
+
+// How many parts a shape has, entity 0 among them.
+fn count_of(shape: &Shape) -> usize
+    requires { shape.now.points ≤ 259 }
+    ensures count { result ≡ part_count shape.now }
+    ensures few { result ≤ 262 }
+{
+    1 + usize::from(shape.points) + usize::from(shape.has_normal) + usize::from(shape.has_distance)
 }

@@ -1,19 +1,22 @@
 // The parameters of a request.
 
-ghost use Rattle.std.specs.Prelude.{◌≡◌, ◌≤◌, ◌<◌, ◌++◌, ◌+◌, pos, IfOk, OnOk};
-ghost use Rattle.sk_types.specs.Standings.{request_standing};
+ghost use Rattle.std.specs.Prelude.{◌≡◌, ◌≤◌, ◌<◌, [], ◌∷◌, ◌++◌, ℕ, IfOk, OnOk};
+ghost use Rattle.std.specs.List.{flat_map};
+ghost use Rattle.sk_types.specs.Lists.{only_if};
+ghost use Rattle.sk_types.specs.Params.{own_params};
 ghost use Rattle.sk_num.specs.Scale.{IsScale};
-ghost use Rattle.sk_entity.specs.Requests.{point_params, request_params, each_below, param_item, has_normal_in_space as normal_in_space, start_value as start_of};
+ghost use Rattle.sk_entity.specs.Requests.{point_of, normal_of, distance_of, request_params, has_normal_in_space as normal_in_space, start_value as start_of};
 
-use crate::shape::shape_of;
+use crate::shape::{Shape, shape_of};
 use sk_num::Grid;
-use sk_types::{ParamId, Request, Standing};
+use sk_types::{ParamId, Request, request_kind};
 use std::alloc::{AllocError, Global};
 
+// The parameters of a point, two in a workplane and three in space.
 fn add_point(params: &mut Vec<ParamId>, r: &Request, i: u16) -> Result<(), AllocError>
     requires known { r.now.id.0 ≤ 32767 }
-    requires few { i < 3 }
-    ensures { OnOk result (params.new.items ≡ params.old.items ++ point_params r.now i) }
+    requires few { i < 259 }
+    ensures { OnOk result ((s : ℕ) → params.new.items ≡ params.old.items ++ own_params (point_of s r.now i)) }
 {
     let first = 16 + 3 * i;
     params.push(ParamId::of_request(r.id, first))?;
@@ -24,48 +27,57 @@ fn add_point(params: &mut Vec<ParamId>, r: &Request, i: u16) -> Result<(), Alloc
     Ok(())
 }
 
-fn add_normal(params: &mut Vec<ParamId>, r: &Request) -> Result<(), AllocError>
+// Those of its normal, where it has one.
+fn add_normal(params: &mut Vec<ParamId>, r: &Request, shape: &Shape) -> Result<(), AllocError>
     requires { r.now.id.0 ≤ 32767 }
-    ensures { OnOk result (params.new.items ≡ params.old.items ++ each_below 4 (λ k. param_item r.now (32 + k))) }
+    ensures { OnOk result ((s : ℕ) → params.new.items ≡ params.old.items ++ flat_map own_params (only_if shape.now.has_normal (normal_of s r.now ∷ []))) }
 {
-    for k in 0..4 {
-        params.push(ParamId::of_request(r.id, 32 + k))?;
+    if shape.has_normal && r.workplane.0 == 0 {
+        params.push(ParamId::of_request(r.id, 32))?;
+        params.push(ParamId::of_request(r.id, 33))?;
+        params.push(ParamId::of_request(r.id, 34))?;
+        params.push(ParamId::of_request(r.id, 35))?;
     }
     Ok(())
 }
 
-/// The parameters of a request of an accepted kind, in rising handle order.
-#[tactic(auto, unfolding(crate::specs::Requests::request_params))]
-pub fn request_params(alloc: Global, r: &Request) -> Result<Vec<ParamId>, AllocError>
-    requires accepted { request_standing (pos r.now.kind) ≡ Standing.Accepted }
-    requires known { r.now.id.0 ≤ 32767 }
-    ensures { IfOk result (λ v. v.items ≡ request_params r.now) }
+// That of its distance, where it has one.
+fn add_distance(params: &mut Vec<ParamId>, r: &Request, shape: &Shape) -> Result<(), AllocError>
+    requires { r.now.id.0 ≤ 32767 }
+    ensures { OnOk result ((s : ℕ) → params.new.items ≡ params.old.items ++ flat_map own_params (only_if shape.now.has_distance (distance_of s r.now ∷ []))) }
 {
-    let mut params = Vec::new(alloc);
-    if r.kind == 101 {
-        add_point(&mut params, r, 0)?;
-        return Ok(params);
-    }
-    let shape = shape_of(r.kind);
-    for i in 0..shape.points {
-        add_point(&mut params, r, i)?;
-    }
-    if shape.has_normal && r.workplane.0 == 0 {
-        add_normal(&mut params, r)?;
-    }
     if shape.has_distance {
         params.push(ParamId::of_request(r.id, 64))?;
     }
+    Ok(())
+}
+
+/// The parameters of a request, in rising handle order: those that its entities have by their own numbers.
+#[tactic(auto, unfolding(crate::specs::Requests::request_entities))]
+pub fn request_params(alloc: Global, r: &Request) -> Result<Vec<ParamId>, AllocError>
+    requires { r.now.id.0 ≤ 32767 }
+    ensures { (s : ℕ) → IfOk result (λ v. v.items ≡ request_params s r.now) }
+{
+    let mut params = Vec::new(alloc);
+    if r.kind == request_kind::DATUM_POINT {
+        add_point(&mut params, r, 0)?;
+        return Ok(params);
+    }
+    let Some(shape) = shape_of(r) else {
+        return Ok(params);
+    };
+    for i in 0..shape.points {
+        add_point(&mut params, r, i)?;
+    }
+    add_normal(&mut params, r, &shape)?;
+    add_distance(&mut params, r, &shape)?;
     Ok(params)
 }
 
 fn has_normal_in_space(r: &Request) -> bool
     ensures { result ≡ normal_in_space r.now }
 {
-    if r.kind == 101 || r.workplane.0 != 0 {
-        return false;
-    }
-    shape_of(r.kind).has_normal
+    r.workplane.0 == 0 && shape_of(r).is_some_and(|shape| shape.has_normal)
 }
 
 /// The number at which the i-th parameter of a request starts where it isn't stored: 1 for the first number of a normal in

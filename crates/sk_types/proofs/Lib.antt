@@ -1,1 +1,6 @@
 pub mod Filled
+pub mod Finding
+pub mod Circles
+pub mod Unknown
+pub mod Unknowns
+pub mod OwnHandles

@@ -1,4 +1,10 @@
+pub mod Lists
 pub mod Handles
+pub mod Kinds
 pub mod Standings
 pub mod Needs
+pub mod Lookups
+pub mod Params
+pub mod FixedPoints
 pub mod Sizes
+pub mod Examples

@@ -1,14 +1,13 @@
-// Constraints, their needed parts, and their sizes.
+// Constraints, and their needed parts.
 
-ghost use Rattle.std.specs.Prelude.{◌≡◌, ◌<◌, ◌≤◌, ◌+◌, length, slice_get, IsTrue, option_map};
-ghost use Rattle.std.specs.Prelude.{[], ◌∷◌};
-ghost use Rattle.std.specs.Prelude.{◌↔◌, pos};
+ghost use Rattle.std.specs.Prelude.{◌≡◌, ◌<◌, ◌≤◌, length, slice_get, pos, [], ◌∷◌};
 ghost use Rattle.sk_types.specs.Standings.{constraint_standing};
-ghost use Rattle.sk_types.specs.Needs.{part_takes, needs_of, filled_up, named, fits_part};
-ghost use Rattle.sk_types.specs.Sizes.{auxiliaries, relations, circle_parts, sizes_of, has_entity};
+ghost use Rattle.sk_types.specs.Needs.{part_takes, two_of as two_of_kind, four_of as four_of_kind, needs_of, filled_up, fits_part};
 
 use crate::handle::{ConstraintId, EntityId, GroupId};
+use crate::kinds::{is_face, is_normal, is_point};
 use crate::standing::Standing;
+use crate::{constraint_kind as kind, entity_kind};
 use sk_num::Grid;
 
 /// A constraint of the model.
@@ -16,7 +15,7 @@ use sk_num::Grid;
 pub struct Constraint<const S: u32> {
     /// Its handle.
     pub id: ConstraintId,
-    /// Its number in SolveSpace's file format.
+    /// Its number in SolveSpace's file format, one of `constraint_kind`.
     pub kind: u16,
     /// The group that it stands in.
     pub group: GroupId,
@@ -49,8 +48,14 @@ pub enum PartKind {
     Normal,
     /// A line or a normal: what has a direction.
     LineOrNormal,
+    /// A face.
+    Face,
+    /// A cubic.
+    Cubic,
     /// An arc.
     Arc,
+    /// An arc or a cubic: what has two ends and a direction there.
+    ArcOrCubic,
     /// A circle or an arc: what has a radius.
     CircleOrArc,
 }
@@ -97,51 +102,62 @@ impl EntityId {
     }
 }
 
+// Entities A and B, which have to be this.
+fn two_of(part: PartKind, entities: &[EntityId; 4]) -> [Option<Need>; 4]
+    ensures { result ≡ filled_up (two_of_kind part entities.now) }
+{
+    two(entities[0].to_be(part), entities[1].to_be(part))
+}
+
+// Entities A to D, which have to be this.
+fn four_of(part: PartKind, entities: &[EntityId; 4]) -> [Option<Need>; 4]
+    ensures { result ≡ filled_up (four_of_kind part entities.now) }
+{
+    let [a, b, c, d] = *entities;
+    four(a.to_be(part), b.to_be(part), c.to_be(part), d.to_be(part))
+}
+
 // The needed parts by the constraint's number, its points and its entities.
 #[tactic(auto, unfolding(crate::specs::Needs::needs_of))]
-fn needs_of(kind: u16, points: &[EntityId; 2], entities: &[EntityId; 4]) -> [Option<Need>; 4]
-    ensures parts { result ≡ filled_up (needs_of kind points.now entities.now) }
-    ensures few { length (needs_of kind points.now entities.now) ≤ 4 }
+fn needs_of(number: u16, points: &[EntityId; 2], entities: &[EntityId; 4]) -> [Option<Need>; 4]
+    ensures parts { result ≡ filled_up (needs_of number points.now entities.now) }
+    ensures few { length (needs_of number points.now entities.now) ≤ 4 }
 {
     let (p, q) = (
         points[0].to_be(PartKind::Point),
         points[1].to_be(PartKind::Point),
     );
-    let [a, b, c, d] = *entities;
-    match kind {
-        20 | 30 | 61 | 62 => two(p, q),
-        31 | 41 => two(p, a.to_be(PartKind::Workplane)),
-        32 | 42 => two(p, a.to_be(PartKind::Line)),
-        34 => three(p, q, a.to_be(PartKind::LineOrNormal)),
-        50 | 51 | 56 => two(a.to_be(PartKind::Line), b.to_be(PartKind::Line)),
-        52 => three(p, a.to_be(PartKind::Line), b.to_be(PartKind::Line)),
-        53 => four(p, q, a.to_be(PartKind::Line), b.to_be(PartKind::Line)),
-        54 => four(
-            a.to_be(PartKind::LineOrNormal),
-            b.to_be(PartKind::LineOrNormal),
-            c.to_be(PartKind::LineOrNormal),
-            d.to_be(PartKind::LineOrNormal),
+    let [a, b, _, _] = *entities;
+    let (line_a, line_b) = (a.to_be(PartKind::Line), b.to_be(PartKind::Line));
+    match number {
+        kind::POINTS_COINCIDENT | kind::POINT_POINT_DISTANCE => two(p, q),
+        kind::SYMMETRIC_HORIZONTAL | kind::SYMMETRIC_VERTICAL => two(p, q),
+        kind::POINT_PLANE_DISTANCE | kind::POINT_IN_PLANE => two(p, a.to_be(PartKind::Workplane)),
+        kind::POINT_LINE_DISTANCE | kind::POINT_ON_LINE => two(p, line_a),
+        kind::POINT_FACE_DISTANCE | kind::POINT_ON_FACE => two(p, a.to_be(PartKind::Face)),
+        kind::PROJECTED_DISTANCE => three(p, q, a.to_be(PartKind::LineOrNormal)),
+        kind::EQUAL_LENGTHS | kind::LENGTH_RATIO | kind::LENGTH_DIFFERENCE => two(line_a, line_b),
+        kind::EQUAL_LENGTH_AND_DISTANCE => three(p, line_a, line_b),
+        kind::EQUAL_DISTANCES => four(p, q, line_a, line_b),
+        kind::EQUAL_ANGLES => four_of(PartKind::LineOrNormal, entities),
+        kind::SYMMETRIC => three(p, q, a.to_be(PartKind::Workplane)),
+        kind::SYMMETRIC_LINE => three(p, q, line_a),
+        kind::AT_MIDPOINT if points[0].0 == 0 => two(line_a, b.to_be(PartKind::Workplane)),
+        kind::AT_MIDPOINT => two(line_a, p),
+        kind::HORIZONTAL | kind::VERTICAL if a.0 == 0 => two(p, q),
+        kind::HORIZONTAL | kind::VERTICAL => one(line_a),
+        kind::DIAMETER => one(a.to_be(PartKind::CircleOrArc)),
+        kind::POINT_ON_CIRCLE => two(p, a.to_be(PartKind::CircleOrArc)),
+        kind::SAME_ORIENTATION => two_of(PartKind::Normal, entities),
+        kind::ANGLE | kind::PARALLEL | kind::PERPENDICULAR => two_of(
+            PartKind::LineOrNormal,
+            entities,
         ),
-        60 => three(p, q, a.to_be(PartKind::Workplane)),
-        63 => three(p, q, a.to_be(PartKind::Line)),
-        70 if points[0].0 == 0 => two(a.to_be(PartKind::Line), b.to_be(PartKind::Workplane)),
-        70 => two(a.to_be(PartKind::Line), p),
-        80 | 81 if a.0 == 0 => two(p, q),
-        80 | 81 => one(a.to_be(PartKind::Line)),
-        90 => one(a.to_be(PartKind::CircleOrArc)),
-        100 => two(p, a.to_be(PartKind::CircleOrArc)),
-        110 => two(a.to_be(PartKind::Normal), b.to_be(PartKind::Normal)),
-        120..=122 => two(
-            a.to_be(PartKind::LineOrNormal),
-            b.to_be(PartKind::LineOrNormal),
-        ),
-        123 => two(a.to_be(PartKind::Arc), b.to_be(PartKind::Line)),
-        125 => two(a.to_be(PartKind::Arc), b.to_be(PartKind::Arc)),
-        130 => two(
-            a.to_be(PartKind::CircleOrArc),
-            b.to_be(PartKind::CircleOrArc),
-        ),
-        200 => one(p),
+        kind::ARC_LINE_TANGENT => two(a.to_be(PartKind::Arc), line_b),
+        kind::CUBIC_LINE_TANGENT => two(a.to_be(PartKind::Cubic), line_b),
+        kind::CURVE_CURVE_TANGENT => two_of(PartKind::ArcOrCubic, entities),
+        kind::EQUAL_RADII => two_of(PartKind::CircleOrArc, entities),
+        kind::WHERE_DRAGGED => one(p),
         _ => [None; 4],
     }
 }
@@ -152,16 +168,17 @@ impl PartKind {
     pub fn takes(self, entity: u16) -> bool
         ensures { result ≡ part_takes self entity }
     {
-        let is_point = matches!(entity, 2000 | 2001 | 2010..=2012);
-        let is_normal = matches!(entity, 3000 | 3001 | 3010 | 3011);
         match self {
-            PartKind::Point => is_point,
-            PartKind::Workplane => entity == 10000,
-            PartKind::Line => entity == 11000,
-            PartKind::Normal => is_normal,
-            PartKind::LineOrNormal => entity == 11000 || is_normal,
-            PartKind::Arc => entity == 14000,
-            PartKind::CircleOrArc => entity == 13000 || entity == 14000,
+            PartKind::Point => is_point(entity),
+            PartKind::Workplane => entity == entity_kind::WORKPLANE,
+            PartKind::Line => entity == entity_kind::LINE,
+            PartKind::Normal => is_normal(entity),
+            PartKind::LineOrNormal => entity == entity_kind::LINE || is_normal(entity),
+            PartKind::Face => is_face(entity),
+            PartKind::Cubic => entity == entity_kind::CUBIC,
+            PartKind::Arc => entity == entity_kind::ARC,
+            PartKind::ArcOrCubic => matches!(entity, entity_kind::ARC | entity_kind::CUBIC),
+            PartKind::CircleOrArc => matches!(entity, entity_kind::CIRCLE | entity_kind::ARC),
         }
     }
 }
@@ -186,56 +203,5 @@ pub fn fits<const S: u32>(c: &Constraint<S>, place: u8, entity: u16) -> bool
     match needs[usize::from(place)] {
         Some(need) => need.part.takes(entity),
         None => false,
-    }
-}
-
-/// How many auxiliaries a constraint has, and how many rows, the auxiliaries' own among them;
-/// `arcs` says how many of its needed circles or arcs are arcs. A reference has none.
-pub fn constraint_sizes<const S: u32>(c: &Constraint<S>, arcs: u8) -> (u8, u8)
-    requires accepted { constraint_standing (pos c.now.kind) ≡ Standing.Accepted }
-    requires arcs { arcs ≤ circle_parts c.now.kind }
-    ensures { result ≡ sizes_of c.now.kind (has_entity c.now.workplane) (has_entity (named c.now.points 0)) c.now.reference arcs }
-{
-    if c.reference {
-        return (0, 0);
-    }
-    let (in_plane, has_point) = (c.workplane.0 != 0, c.points[0].0 != 0);
-    let auxiliaries = auxiliaries(c.kind, in_plane, arcs);
-    (
-        auxiliaries,
-        auxiliaries + relations(c.kind, in_plane, has_point),
-    )
-}
-
-fn auxiliaries(kind: u16, in_plane: bool, arcs: u8) -> u8
-    requires { arcs ≤ 2 }
-    ensures value { result ≡ auxiliaries kind in_plane arcs }
-    ensures few { result ≤ 6 }
-{
-    match kind {
-        32 | 34 => 1,
-        42 => u8::from(!in_plane),
-        52 => if in_plane { 2 } else { 1 },
-        53 => if in_plane { 4 } else { 2 },
-        54 => 6,
-        56 | 120 => 2,
-        90 | 100 | 130 => arcs,
-        _ => 0,
-    }
-}
-
-fn relations(kind: u16, in_plane: bool, has_point: bool) -> u8
-    ensures value { result ≡ relations kind in_plane has_point }
-    ensures few { result ≤ 3 }
-{
-    match kind {
-        20 | 60 => if in_plane { 2 } else { 3 },
-        42 | 121 => if in_plane { 1 } else { 2 },
-        61..=63 => 2,
-        70 if !has_point => 1,
-        70 => if in_plane { 2 } else { 3 },
-        110 => 3,
-        200 | 1000 => 0,
-        _ => 1,
     }
 }

@@ -23,12 +23,12 @@ pub enum Numbering<const S: u32> {
     Nothing,
 }
 
-/// A point, a normal, a distance, a workplane or a curve.
+/// A point, a normal, a distance, a workplane, a curve or a face.
 #[derive(Debug, Drop)]
 pub struct Entity<const S: u32> {
     /// Its handle.
     pub id: EntityId,
-    /// Its number in SolveSpace's file format.
+    /// Its number in SolveSpace's file format, one of `entity_kind`.
     pub kind: u16,
     /// The group that it stands in.
     pub group: GroupId,

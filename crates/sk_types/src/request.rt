@@ -7,7 +7,7 @@ use crate::handle::{EntityId, GroupId, RequestId};
 pub struct Request {
     /// Its handle.
     pub id: RequestId,
-    /// Its number: 100 workplane, 101 datum point, 200 line, 400 circle, 500 arc.
+    /// Its number in SolveSpace's file format, one of `request_kind`.
     pub kind: u16,
     /// The group that it stands in.
     pub group: GroupId,
@@ -15,6 +15,6 @@ pub struct Request {
     pub workplane: EntityId,
     /// Whether it is for construction alone.
     pub construction: bool,
-    /// How many points it has beyond the least; 0 for every kind that is built.
+    /// How many points a cubic has beyond its four, 0 to 8; what other kinds have here isn't looked at.
     pub extra: u8,
 }

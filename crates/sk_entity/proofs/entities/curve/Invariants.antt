@@ -1,5 +1,6 @@
 use Rattle.std.proofs.Common.{◌≡◌, ◌+◌}
-use Rattle.sk_entity.specs.Requests.{each_below, entity_item}
+use Rattle.sk_types.specs.Lists.{each_below}
+use Rattle.sk_entity.specs.Requests.{entity_item}
 use Rattle.sk_entity.proofs.entities.curve.Given as goal
 
 abbrev pub invariant-loop-i : goal.invariant-loop-i

@@ -1,0 +1,2 @@
+pub mod OwnOfParts
+pub mod Parts
