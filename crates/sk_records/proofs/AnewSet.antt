@@ -1,40 +1,36 @@
 -- Records made anew among the items.
-use Rattle.std.proofs.Common.{◌≡◌, ℕ, ◌<◌, List, [], ◌∷◌, ◌++◌, length, take, drop, get_or, refl, ap, sym, ◌∙◌, false, arith, subst, Vec, Ok, length-append}
+use Rattle.std.specs.Prelude.{if◌then◌else◌}
+use Rattle.std.proofs.Common.{◌≡◌, ℕ, ◌+◌, ◌<◌, ◌≤◌, List, [], ◌∷◌, ◌++◌, length, take, drop, get_or, refl, ap, sym, ◌∙◌, append_assoc, false, arith, subst, Vec, Ok, length-append}
 use Rattle.std.specs.List.{All}
-use Rattle.std.proofs.lemmas.List.{take_at, drop_at}
-use Rattle.std.proofs.lemmas.List.Elements.{All-nil}
-use Rattle.sk_text.specs.Lines.{TextLine, lines_in, joined}
-use Rattle.sk_text.proofs.Whole.{lines_joined}
+use Rattle.std.proofs.lemmas.List.{take_at, drop_at, take-append-drop, length-take-le}
+use Rattle.std.proofs.lemmas.List.Elements.{All-append}
+use Rattle.sk_text.specs.Lines.{TextLine}
 use Rattle.sk_records.specs.declared.kinds.Kind.{Kind}
+use Rattle.sk_records.specs.declared.kinds.Kind.TheVariants.{Group, Param, Request, Entity, Constraint, Style}
 use Rattle.sk_records.specs.declared.rows.Span.{Span}
-use Rattle.sk_records.specs.declared.items.Stretch.{Stretch}
 use Rattle.sk_records.specs.declared.items.Item.{Item}
-use Rattle.sk_records.specs.declared.items.Item.TheVariants.{Lines, Held}
+use Rattle.sk_records.specs.declared.items.Item.TheVariants.{Held}
 use Rattle.sk_records.specs.Kinds.{same_kind}
-use Rattle.sk_records.specs.Blocks.{Block, Rec, Loose, Record, records, has, feed_line, with_tails, without, add_records, made_anew}
-use Rattle.sk_records.specs.Reading.{Outside}
-use Rattle.sk_records.specs.Written.{IsText, lines_of, bare_rec, bare}
-use Rattle.sk_records.specs.Held.{line_at, rec_at, item_blocks, blocks_at, IsWithin, RowWithin, ItemWithin}
-use Rattle.sk_records.specs.Places.{places_from, all_places, lists_of}
+use Rattle.sk_records.specs.Blocks.{Block, Rec, Loose, Record, has, feed_line, with_tails, without, add_records, made_anew}
+use Rattle.sk_records.specs.Written.{IsText, bare_rec, bare}
+use Rattle.sk_records.specs.Holding.Held.{line_at, rec_at, blocks_at, IsWithin, ItemWithin}
+use Rattle.sk_records.specs.Holding.Places.{places_from, all_places, lists_of}
 use Rattle.sk_records.specs.Given.{recs_of, recs_read, given_records, AreRecords}
-use Rattle.sk_records.specs.GivenHeld.{IsGivenAs}
-use Rattle.sk_records.specs.Grown.{IsGrown}
-use Rattle.sk_records.specs.Copied.{AreCopies}
-use Rattle.sk_records.specs.BookHeld.{book_blocks, IsHeld, IsBook}
-use Rattle.sk_records.specs.Ready.{IsNew, IsPut, IsKept}
-use Rattle.sk_records.specs.Anew.{IsSetAnew, IsAnew, IsMark, IsMarked}
-use Rattle.sk_records.proofs.MadeAnew.{anew_at, anew_marked}
-use Rattle.sk_records.proofs.RecordsAfter.{added_same}
-use Rattle.sk_records.proofs.ReadSound.{reads_sound}
-use Rattle.sk_records.proofs.ReadAgain.{same_kind_refl}
-use Rattle.sk_records.proofs.TextKept.{given_with_tails, text_anew}
+use Rattle.sk_records.specs.Holding.GivenHeld.{IsGivenAs}
+use Rattle.sk_records.specs.Holding.Grown.{IsGrown}
+use Rattle.sk_records.specs.Holding.ChangesHeld.{IsChanged}
+use Rattle.sk_records.specs.Holding.BookHeld.{book_blocks, IsHeld, IsBook}
+use Rattle.sk_records.specs.Holding.Ready.{IsKept}
+use Rattle.sk_records.specs.Holding.Anew.{list_anew, lists_anew, IsSetAnew, IsAnew}
+use Rattle.sk_records.specs.Laws.MadeAnew.{anew_at}
+use Rattle.sk_records.specs.Laws.TextKept.{given_with_tails, text_anew}
 use Rattle.sk_records.proofs.HeldLines.{blocks-append, all_left, all_right}
 use Rattle.sk_records.proofs.PlacesLemmas.{length_places}
 use Rattle.sk_records.proofs.Growth.{line_same, blocks_same, span_grows}
 use Rattle.sk_records.proofs.ItemSet.{IsSplit, split_at}
 use Rattle.sk_records.proofs.NewPlace.{none_of_kind}
 use Rattle.sk_records.proofs.RecordGoes.{kept}
-use Rattle.sk_records.proofs.BookCopied.{book_copied}
+use Rattle.sk_records.proofs.BookDropped.{places-append}
 
 bare_tails : (rs : List Rec) → bare (with_tails rs) ≡ with_tails (recs_of (bare (with_tails rs)))
 bare_tails [] = refl
@@ -46,14 +42,6 @@ given_blocks text k lines items are ag =
     let read : Ok ag.blocks ≡ Ok (with_tails are.given) = sym ag.read ∙ are.read in
     let same : ag.blocks ≡ with_tails are.given = cc in
     ag.same ∙ ap bare same ∙ bare_tails are.given ∙ ap with_tails (sym (ap recs_read are.read))
-
--- lines that aren't none give a record
-pub some_given : (k : Kind) (lines : List ℕ) → AreRecords k lines → 0 < length lines → (r : Rec) × ((rs : List Rec) × (given_records lines ≡ r ∷ rs))
-some_given k lines are some = by_given are.given (reads_sound 1 Outside (lines_in lines) (with_tails are.given) tt are.read).lines (ap recs_read are.read)
-  where
-    by_given : (rs : List Rec) → lines_of (with_tails rs) ≡ lines_in lines → given_records lines ≡ recs_of (bare (with_tails rs)) → (r : Rec) × ((more : List Rec) × (given_records lines ≡ r ∷ more))
-    by_given [] e is = absurd (omega (arith, some, ap length (ap joined e ∙ lines_joined lines)))
-    by_given (r ∷ rs) e is = (bare_rec r, (recs_of (bare (with_tails rs)), is))
 
 -- what is made anew where the first stands
 module _ {A : Type 0} (old new : List ℕ) (k : Kind) (lines : List ℕ) (items made out : List Item) (was now : List (Vec ℕ A)) (at : ℕ)
@@ -87,51 +75,48 @@ module _ {A : Type 0} (old new : List ℕ) (k : Kind) (lines : List ℕ) (items 
   pub set_anew_there : All (ItemWithin new) out → lists_of now ≡ all_places out → IsSetAnew old new k lines items out now
   set_anew_there within index = record { blocks = set_blocks; held = record { within = within; index = index } }
 
--- ---- the mark
+-- ---- new items at a place, and behind it without the records of a kind
 
-pub mark_new : (text : List ℕ) (k : Kind) (x : Item) (t : Stretch) → IsMark k x → item_blocks text (Lines t) ≡ Loose feed_line ∷ [] → ItemWithin text (Lines t) → IsNew text k x t
-mark_new text k x t is tail tail_within = record {
-  given = rec_at text is.held;
-  is = ap (item_blocks text) is.is;
-  kind = ap (λ (j : Kind). same_kind j k) is.kind ∙ same_kind_refl k;
-  within = subst (ItemWithin text) (sym is.is) (record { rows = subst (All (RowWithin text)) (sym is.rows) (All-nil (RowWithin text)); close = subst (IsWithin text) (sym is.close) (record { body = omega arith; ending = omega arith; within = omega arith }) });
-  tail = tail;
-  tail_within = tail_within;
-}
+list_is : (k : Kind) (at : ℕ) (items new rest : List Item) → at ≤ length items → ((j : Kind) → (n : ℕ) → places_from j n rest ≡ (if same_kind j k then [] else places_from j n (drop at items))) → (j : Kind) → list_anew k at items new j ≡ places_from j 0 (take at items ++ (new ++ rest))
+list_is k at items new rest le left j =
+    let n : 0 + length (take at items) ≡ at = omega (arith, length-take-le at items le) in
+    sym (places-append j 0 (take at items) (new ++ rest)
+    ∙ ap (λ (m : ℕ). places_from j 0 (take at items) ++ places_from j m (new ++ rest)) n
+    ∙ ap (λ (ps : List ℕ). places_from j 0 (take at items) ++ ps) (places-append j at new rest ∙ ap (λ (ps : List ℕ). places_from j at new ++ ps) (left j (at + length new))))
 
-pub marked : {A : Type 0} (old mid new : List ℕ) (k : Kind) (x : Item) (t : Stretch) (was now : Span) (items items1 items2 : List Item) (places : List (Vec ℕ A)) → IsNew mid k x t → book_blocks mid was items1 ≡ book_blocks old was items → IsPut mid new k x was now items1 items2 places → IsMarked old new k was now items items2 places
-marked old mid new k x t was now items items1 items2 places is same put = record {
-  mark = is.given;
-  kind = is.kind;
-  book = put.book is.given is.is ∙ ap (add_records k (is.given ∷ [])) same;
-  first = put.first;
-  held = put.held;
-}
+pub lists_are : (k : Kind) (at : ℕ) (items new rest : List Item) → at ≤ length items → ((j : Kind) → (n : ℕ) → places_from j n rest ≡ (if same_kind j k then [] else places_from j n (drop at items))) → lists_anew k at items new ≡ all_places (take at items ++ (new ++ rest))
+lists_are k at items new rest le left =
+    let is : (j : Kind) → list_anew k at items new j ≡ places_from j 0 (take at items ++ (new ++ rest)) = list_is k at items new rest le left in
+    rw (is Group, is Param, is Request, is Entity, is Constraint, is Style) refl
 
--- where a mark was put a record stands
-pub mark_stands : {A : Type 0} (old new : List ℕ) (k : Kind) (was now : Span) (items after : List Item) (places : List (Vec ℕ A)) → IsMarked old new k was now items after places → 0 < length (places_from k 0 after)
-mark_stands old new k was now items after places is =
-    let B = book_blocks old was items in
-    let e : records k (blocks_at new after) ≡ records k B ++ is.mark.rows ∷ [] = ap (records k) is.book ∙ added_same k (is.mark ∷ []) B (is.kind, tt) in
-    omega (arith, length_places new k 0 after, ap length e, length-append (records k B) (is.mark.rows ∷ []))
+module _ (text : List ℕ) (k : Kind) (items new rest : List Item) (at : ℕ) where
+  pub out_blocks : blocks_at text rest ≡ without k false (blocks_at text (drop at items)) → blocks_at text (take at items ++ (new ++ rest)) ≡ blocks_at text (take at items) ++ (blocks_at text new ++ without k false (blocks_at text (drop at items)))
+  out_blocks e = blocks-append text (take at items) (new ++ rest) ∙ ap (λ (b : List Block). blocks_at text (take at items) ++ b) (blocks-append text new rest ∙ ap (λ (b : List Block). blocks_at text new ++ b) e)
 
-pub none_has : (text : List ℕ) (k : Kind) (items : List Item) → length (places_from k 0 items) ≡ 0 → has k (blocks_at text items) ≡ false
-none_has text k items e = none_of_kind k (blocks_at text items) (sym (length_places text k 0 items) ∙ e)
+  pub out_within : All (ItemWithin text) items → All (ItemWithin text) new → All (ItemWithin text) rest → All (ItemWithin text) (take at items ++ (new ++ rest))
+  out_within all new_within rest_within =
+      let whole : All (ItemWithin text) (take at items ++ drop at items) = subst (All (ItemWithin text)) (sym (take-append-drop at items)) all in
+      All-append (ItemWithin text) (take at items) (new ++ rest) (all_left (ItemWithin text) (take at items) (drop at items) whole) (All-append (ItemWithin text) new rest new_within rest_within)
 
--- what is made anew in a copy with a mark
-pub anew_over_mark : {A : Type 0} (old mid new : List ℕ) (k : Kind) (lines : List ℕ) (was now : Span) (items copied after final : List Item) (places places2 : List (Vec ℕ A)) → length (places_from k 0 items) ≡ 0 → AreRecords k lines → 0 < length lines → AreCopies copied items → IsMarked old mid k was now copied after places → IsGrown mid new → IsSetAnew mid new k lines after final places2 → IsAnew old new k lines was now items final places2
-anew_over_mark old mid new k lines was now items copied after final places places2 none are some copies is g made =
-    let B = book_blocks old was items in
-    let given = some_given k lines are some in
-    let again : made_anew k (given_records lines) (add_records k (is.mark ∷ []) B) ≡ made_anew k (given_records lines) B = rw given.1.1 (anew_marked k is.mark given.0 given.1.0 B is.kind (none_has old k items none)) in
-    record {
-      book = ap (λ (l : TextLine). Loose l ∷ blocks_at new final) (line_same mid new now g is.first)
-          ∙ made.blocks (line_at mid now)
-          ∙ ap (made_anew k (given_records lines)) (is.book ∙ ap (add_records k (is.mark ∷ [])) (book_copied old was items copied copies))
-          ∙ again;
-      first = span_grows mid new now g is.first;
-      held = made.held;
-    }
+-- where the new items end
+module _ (items made two : List Item) (at behind : ℕ) (le : at ≤ length items) (end : behind ≡ at + length made) (put : two ≡ take at items ++ (made ++ drop at items)) where
+  front_len : length (take at items ++ made) ≡ behind
+  front_len = omega (arith, end, length-append (take at items) made, length-take-le at items le)
+
+  whole_two : two ≡ (take at items ++ made) ++ drop at items
+  whole_two = put ∙ sym (append_assoc (take at items) made (drop at items))
+
+  pub behind_within : behind ≤ length two
+  behind_within = omega (arith, front_len, ap length whole_two, length-append (take at items ++ made) (drop at items))
+
+  pub behind_is : drop behind two ≡ drop at items
+  behind_is = ap (drop behind) whole_two ∙ drop_at (take at items ++ made) (drop at items) behind front_len
+
+  pub left_out : (f : List Item → List Item) (out : List Item) → out ≡ take behind two ++ f (drop behind two) → out ≡ take at items ++ (made ++ f (drop at items))
+  left_out f out e =
+      e ∙ ap (λ (l : List Item). l ++ f (drop behind two)) (ap (take behind) whole_two ∙ take_at (take at items ++ made) (drop at items) behind front_len)
+      ∙ ap (λ (l : List Item). (take at items ++ made) ++ f l) behind_is
+      ∙ append_assoc (take at items) made (f (drop at items))
 
 -- ---- the whole
 
@@ -145,13 +130,15 @@ anew_standing old new k lines header items after places first g made = record {
 pub kept_alike : {A : Type 0} (old new : List ℕ) (header : Span) (items after : List Item) (was now : List (Vec ℕ A)) → IsGrown old new → IsWithin old header → IsHeld old items was → after ≡ items → lists_of now ≡ lists_of was → IsKept old new header header items after now
 kept_alike old new header items after was now g first held e f = rw e (kept old new header items was now g first held f)
 
--- with no lines nothing is made where none stood
-pub anew_none : {A : Type 0} (text : List ℕ) (k : Kind) (lines : List ℕ) (header : Span) (items : List Item) (places : List (Vec ℕ A)) → IsWithin text header → IsHeld text items places → length (places_from k 0 items) ≡ 0 → lines ≡ [] → IsAnew text text k lines header header items items places
-anew_none text k lines header items places first held none e =
-    let B = book_blocks text header items in
-    let absent : has k B ≡ false = none_has text k items none in
-    let nothing : made_anew k [] B ≡ B = rw absent refl in
-    record { book = sym (ap (λ (l : List ℕ). made_anew k (given_records l) B) e ∙ nothing); first = first; held = held }
+-- where none stood they are new records
+pub anew_added : {A : Type 0} (old new : List ℕ) (k : Kind) (lines : List ℕ) (header header2 : Span) (items items2 : List Item) (places2 : List (Vec ℕ A)) → length (places_from k 0 items) ≡ 0 → IsChanged old new k [] lines header header2 items items2 places2 → IsAnew old new k lines header header2 items items2 places2
+anew_added old new k lines header header2 items items2 places2 none made =
+    let B = book_blocks old header items in
+    let absent : has k B ≡ false = none_of_kind k (blocks_at old items) (sym (length_places old k 0 items) ∙ none) in
+    record { book = made.book ∙ sym (when_none k (given_records lines) B absent); first = made.first; held = made.held }
+  where
+    when_none : (k : Kind) (rs : List Rec) (bs : List Block) → has k bs ≡ false → made_anew k rs bs ≡ add_records k rs bs
+    when_none k rs bs e = rw e refl
 
 -- a book whose records were made anew is a book
 pub anew_book : {A : Type 0} (old new : List ℕ) (k : Kind) (lines : List ℕ) (was now : Span) (items items2 : List Item) (places places2 : List (Vec ℕ A)) → IsBook old was items places → AreRecords k lines → IsAnew old new k lines was now items items2 places2 → IsBook new now items2 places2

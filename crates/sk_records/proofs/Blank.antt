@@ -5,15 +5,15 @@ use Rattle.std.proofs.lemmas.List.Elements.{All-head, All-tail, All-cons}
 use Rattle.std.proofs.lemmas.Bool.{eqb-true, eqb-false, eq-eqb, ne_eqb}
 use Rattle.std.proofs.lemmas.List.{drop_at}
 use Rattle.sk_text.specs.Lines.{TextLine, lines_in, line_bytes, joined, end_len, is_empty, IsEnd, AreLines}
-use Rattle.sk_text.proofs.Whole.{lines_joined, lines_ended}
+use Rattle.sk_text.specs.LineLaws.{lines_joined, lines_ended}
 use Rattle.sk_records.specs.declared.kinds.Kind.{Kind}
 use Rattle.sk_records.specs.declared.items.Item.{Item}
 use Rattle.sk_records.specs.declared.items.Item.TheVariants.{Gone, Lines, Held}
 use Rattle.sk_records.specs.Blocks.{Block, tail_len}
-use Rattle.sk_records.specs.Held.{bytes_at, item_blocks, blocks_at, ItemWithin}
-use Rattle.sk_records.specs.Places.{holds, places_from}
-use Rattle.sk_records.specs.Removed.{feed_len, blank_len, shrunk, is_gone, or_else, shrink_first}
-use Rattle.sk_records.proofs.MadeAnew.{two}
+use Rattle.sk_records.specs.Holding.Held.{bytes_at, item_blocks, blocks_at, ItemWithin}
+use Rattle.sk_records.specs.Holding.Places.{holds, places_from}
+use Rattle.sk_records.specs.Holding.Removed.{feed_len, blank_len, shrunk, is_gone, or_else, shrink_first}
+use Rattle.sk_records.specs.Laws.MadeAnew.{two}
 use Rattle.sk_records.proofs.HeldLines.{length_bytes, bytes_join}
 
 -- the first line of some bytes: it is empty exactly where an empty line stands at the front

@@ -10,11 +10,11 @@ use Rattle.sk_records.specs.Kinds.{same_kind}
 use Rattle.sk_records.specs.Rows.{Row}
 use Rattle.sk_records.specs.Blocks.{Block, Loose, Record, records, with_rows, on_record}
 use Rattle.sk_records.specs.Written.{IsText}
-use Rattle.sk_records.specs.Held.{line_at, item_blocks, blocks_at, ItemWithin}
-use Rattle.sk_records.specs.Places.{places_from, all_places}
-use Rattle.sk_records.specs.BookHeld.{book_blocks, IsBook}
-use Rattle.sk_records.specs.Changes.{ItemChange}
-use Rattle.sk_records.proofs.MadeAnew.{two}
+use Rattle.sk_records.specs.Holding.Held.{line_at, item_blocks, blocks_at, ItemWithin}
+use Rattle.sk_records.specs.Holding.Places.{places_from, all_places}
+use Rattle.sk_records.specs.Holding.BookHeld.{book_blocks, IsBook}
+use Rattle.sk_records.specs.Holding.Changes.{ItemChange}
+use Rattle.sk_records.specs.Laws.MadeAnew.{two}
 use Rattle.sk_records.proofs.Growth.{item_same, blocks_same, items_grow, span_grows, line_same}
 use Rattle.sk_records.proofs.PlacesLemmas.{length_places}
 use Rattle.sk_records.proofs.ItemSet.{split_at, on_header, blocks_changed, places_kept}

@@ -14,17 +14,17 @@ use Rattle.sk_records.specs.declared.items.Item.TheVariants.{Gone, Held}
 use Rattle.sk_records.specs.Kinds.{same_kind, kind_place}
 use Rattle.sk_records.specs.Blocks.{Block, Loose, Record, records, is_of, tail_len, dropped}
 use Rattle.sk_records.specs.Written.{IsText}
-use Rattle.sk_records.specs.Held.{line_at, rec_at, blocks_at, ItemWithin}
-use Rattle.sk_records.specs.Places.{holds, places_from, all_places, lists_of, list_of}
-use Rattle.sk_records.specs.BookHeld.{book_blocks, IsBook}
-use Rattle.sk_records.specs.Removed.{shrink_first}
-use Rattle.sk_records.proofs.MadeAnew.{two}
-use Rattle.sk_records.proofs.ReadSound.{same_kinds}
+use Rattle.sk_records.specs.Holding.Held.{line_at, rec_at, blocks_at, ItemWithin}
+use Rattle.sk_records.specs.Holding.Places.{holds, places_from, all_places, lists_of, list_of}
+use Rattle.sk_records.specs.Holding.BookHeld.{book_blocks, IsBook}
+use Rattle.sk_records.specs.Holding.Removed.{shrink_first}
+use Rattle.sk_records.specs.Laws.MadeAnew.{two}
+use Rattle.sk_records.specs.Laws.ReadSound.{same_kinds}
 use Rattle.sk_records.proofs.HeldLines.{blocks-append, all_left, all_right}
 use Rattle.sk_records.proofs.PlacesLemmas.{length_places}
 use Rattle.sk_records.proofs.ItemSet.{IsSplit, split_at}
 use Rattle.sk_records.proofs.Blank.{blocks_shrunk, first_within, places_shrunk}
-use Rattle.sk_records.proofs.TextKept.{text_dropped}
+use Rattle.sk_records.specs.Laws.TextKept.{text_dropped}
 
 pub six_lists : {A : Type 0} (vs : List (Vec ℕ A)) (items : List Item) → lists_of vs ≡ all_places items → length vs ≡ 6
 six_lists {A} vs items e = sym (length-map vs (λ (v : Vec ℕ A). v.items)) ∙ ap length e

@@ -11,12 +11,12 @@ use Rattle.sk_records.specs.declared.items.Item.TheVariants.{Gone, Lines, Held}
 use Rattle.sk_records.specs.Rows.{Row}
 use Rattle.sk_records.specs.Blocks.{Block, Rec, Loose, Record}
 use Rattle.sk_records.specs.Written.{bare_row, bare_rows, bare_rec, bare}
-use Rattle.sk_records.specs.Held.{bytes_at, row_at, rows_at, rec_at, line_at, item_blocks, blocks_at, RowWithin, ItemWithin}
+use Rattle.sk_records.specs.Holding.Held.{bytes_at, row_at, rows_at, rec_at, line_at, item_blocks, blocks_at, RowWithin, ItemWithin}
 use Rattle.sk_records.specs.declared.kinds.Kind.{Kind}
 use Rattle.sk_records.specs.Given.{IsOneRecord, recs_read}
-use Rattle.sk_records.specs.GivenHeld.{bare_held, IsBareOf, IsGivenAs, IsRecordOf}
+use Rattle.sk_records.specs.Holding.GivenHeld.{bare_held, IsBareOf, IsGivenAs, IsRecordOf}
 use Rattle.sk_records.proofs.HeldLines.{blocks-append, all_right}
-use Rattle.sk_records.proofs.Numbers.{bare-append}
+use Rattle.sk_records.specs.Laws.Numbers.{bare-append}
 
 bare_at : (text : List ℕ) (rows : List held.Row) → rows_at text (map bare_held rows) ≡ bare_rows (rows_at text rows)
 bare_at text [] = refl

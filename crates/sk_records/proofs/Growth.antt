@@ -12,9 +12,9 @@ use Rattle.sk_records.specs.declared.items.Item.{Item}
 use Rattle.sk_records.specs.declared.items.Item.TheVariants.{Gone, Lines, Held}
 use Rattle.sk_records.specs.Rows.{Row}
 use Rattle.sk_records.specs.Blocks.{Block, Rec, Loose, Record}
-use Rattle.sk_records.specs.Held.{bytes_at, line_at, row_at, rows_at, rec_at, item_blocks, blocks_at, IsWithin, RowWithin, RecordWithin, ItemWithin}
-use Rattle.sk_records.specs.BookHeld.{book_blocks}
-use Rattle.sk_records.specs.Grown.{IsGrown}
+use Rattle.sk_records.specs.Holding.Held.{bytes_at, line_at, number_held, row_span, row_at, rows_at, rec_at, item_blocks, blocks_at, IsWithin, RowWithin, RecordWithin, ItemWithin}
+use Rattle.sk_records.specs.Holding.BookHeld.{book_blocks}
+use Rattle.sk_records.specs.Holding.Grown.{IsGrown}
 
 pub grown_none : (text : List ℕ) → IsGrown text text
 grown_none text = record { more = []; is = sym (append-nil text) }
@@ -37,8 +37,8 @@ line_same old new s g is =
 
 row_same : (old new : List ℕ) (r : held.Row) → IsGrown old new → RowWithin old r → row_at new r ≡ row_at old r
 row_same old new r g is =
-    let line : line_at new r.span ≡ line_at old r.span = line_same old new r.span g is in
-    ap (λ (l : TextLine). record { number = r.number; role = r.role; body = l.body; ending = l.ending }) line
+    let line : line_at new (row_span r) ≡ line_at old (row_span r) = line_same old new (row_span r) g is in
+    ap (λ (l : TextLine). record { number = number_held r.number; role = r.role; body = l.body; ending = l.ending }) line
 
 pub rows_same : (old new : List ℕ) (rows : List held.Row) → IsGrown old new → All (RowWithin old) rows → rows_at new rows ≡ rows_at old rows
 rows_same old new [] g is = refl
@@ -65,10 +65,10 @@ book_same old new header items g first is =
     ap (λ (l : TextLine). Loose l ∷ blocks_at new items) (line_same old new header g first) ∙ ap (λ (bs : List Block). Loose (line_at old header) ∷ bs) (blocks_same old new items g is)
 
 pub span_grows : (old new : List ℕ) (s : Span) → IsGrown old new → IsWithin old s → IsWithin new s
-span_grows old new s g is = record { body = is.body; ending = is.ending; within = omega (arith, is.within, grown_length old new g) }
+span_grows old new s g is = record { body = is.body; ending = is.ending; short = is.short; within = omega (arith, is.within, grown_length old new g) }
 
 pub rows_grow : (old new : List ℕ) (rows : List held.Row) → IsGrown old new → All (RowWithin old) rows → All (RowWithin new) rows
-rows_grow old new rows g all = λ k d lt. span_grows old new (get_or rows k d).span g (all k d lt)
+rows_grow old new rows g all = λ k d lt. span_grows old new (row_span (get_or rows k d)) g (all k d lt)
 
 pub item_grows : (old new : List ℕ) (x : Item) → IsGrown old new → ItemWithin old x → ItemWithin new x
 item_grows old new Gone g is = tt

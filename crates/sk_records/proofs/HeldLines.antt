@@ -6,12 +6,12 @@ use Rattle.std.proofs.lemmas.List.{map-append, append-nil, length-take-le, get_o
 use Rattle.std.proofs.lemmas.Grind.{flat_map-append}
 use Rattle.std.proofs.Math.Seq.{take-add, set-append_seam}
 use Rattle.sk_text.specs.Lines.{TextLine, lines_in, line_bytes}
-use Rattle.sk_text.proofs.Whole.{lines-append}
+use Rattle.sk_text.specs.LineLaws.{lines-append}
 use Rattle.sk_records.specs.declared.rows.Span.{Span}
 use Rattle.sk_records.specs.declared.items.Item.{Item}
 use Rattle.sk_records.specs.declared.items.Item.TheVariants.{Lines}
 use Rattle.sk_records.specs.Blocks.{Block, Loose}
-use Rattle.sk_records.specs.Held.{bytes_at, line_at, item_blocks, blocks_at, IsWithin, IsJoined}
+use Rattle.sk_records.specs.Holding.Held.{bytes_at, line_at, item_blocks, blocks_at, IsWithin, IsJoined}
 
 pub blocks-append : (text : List ℕ) (a b : List Item) → blocks_at text (a ++ b) ≡ blocks_at text a ++ blocks_at text b
 blocks-append text a b = flat_map-append (item_blocks text) a b

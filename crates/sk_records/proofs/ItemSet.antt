@@ -10,9 +10,9 @@ use Rattle.sk_records.specs.declared.items.Record as held_record
 use Rattle.sk_records.specs.Kinds.{same_kind}
 use Rattle.sk_records.specs.Rows.{Row}
 use Rattle.sk_records.specs.Blocks.{Block, Loose, Record, records, is_of, on_record, with_rows}
-use Rattle.sk_records.specs.Held.{rec_at, item_blocks, blocks_at}
-use Rattle.sk_records.specs.Places.{holds, places_from, all_places}
-use Rattle.sk_records.proofs.MadeAnew.{two}
+use Rattle.sk_records.specs.Holding.Held.{rec_at, item_blocks, blocks_at}
+use Rattle.sk_records.specs.Holding.Places.{holds, places_from, all_places}
+use Rattle.sk_records.specs.Laws.MadeAnew.{two}
 use Rattle.sk_records.proofs.HeldLines.{blocks-append}
 use Rattle.sk_records.proofs.PlacesLemmas.{records_lines}
 

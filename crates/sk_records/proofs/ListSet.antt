@@ -1,17 +1,18 @@
 -- A remap list that is set among the held lines of a record.
-use Rattle.std.proofs.Common.{◌≡◌, inl, inr, ℕ, List, [], ◌∷◌, ◌++◌, map, refl, ap, ◌∙◌, append_assoc, None}
+use Rattle.std.proofs.Common.{◌≡◌, inl, inr, ℕ, List, [], ◌∷◌, ◌++◌, map, refl, ap, ◌∙◌, append_assoc}
 use Rattle.std.specs.List.{All, filter}
 use Rattle.std.proofs.lemmas.List.{map-append}
 use Rattle.std.proofs.lemmas.List.Elements.{All-nil, All-cons, All-head, All-tail, All-append}
-use Rattle.sk_text.specs.Lines.{TextLine, PlacedLine, line_at}
+use Rattle.sk_text.specs.Lines.{PlacedLine, line_at}
 use Rattle.sk_records.specs.declared.rows.Row as held
 use Rattle.sk_records.specs.Rows.{Row, is_plain_role, is_plain, with_map}
 use Rattle.sk_records.specs.Given.{list_role, list_row}
-use Rattle.sk_records.specs.Held.{row_at, rows_at, RowWithin}
-use Rattle.sk_records.specs.Moves.{IsPartFrom}
-use Rattle.sk_records.specs.Changes.{is_plain_row, with_list}
-use Rattle.sk_records.proofs.MadeAnew.{two}
-use Rattle.sk_records.proofs.ReadSteps.{span_of, span_line}
+use Rattle.sk_records.specs.Holding.Held.{row_of, row_at, rows_at, RowWithin}
+use Rattle.sk_records.specs.Holding.Moves.{IsPartFrom}
+use Rattle.sk_records.specs.Holding.Changes.{is_plain_row, with_list}
+use Rattle.sk_records.specs.Laws.MadeAnew.{two}
+use Rattle.sk_records.proofs.ReadSteps.{span_of, span_within, span_line}
+use Rattle.sk_records.proofs.RowsSet.{row_lined}
 
 plain_at : (text : List ℕ) (rows : List held.Row) → rows_at text (filter is_plain_row rows) ≡ filter is_plain (rows_at text rows)
 plain_at text [] = refl
@@ -41,10 +42,10 @@ list_within text new (r ∷ rs) n all = elim (two (is_plain_role r.role)) [
 -- one more line of a given list
 pub given_more : (text : List ℕ) (base : ℕ) (p : PlacedLine) (rest : List PlacedLine) (rows : List held.Row) (all : List Row) (part : IsPartFrom text base p) →
     rows_at text rows ++ map list_row (map line_at (p ∷ rest)) ≡ all →
-    rows_at text (rows ++ record { span = span_of text base p part; role = list_role p.line.body; number = None } ∷ []) ++ map list_row (map line_at rest) ≡ all
+    rows_at text (rows ++ row_of (span_of text base p part) (list_role p.line.body) 0 ∷ []) ++ map list_row (map line_at rest) ≡ all
 given_more text base p rest rows all part e =
-    let x : held.Row = record { span = span_of text base p part; role = list_role p.line.body; number = None } in
-    let here : row_at text x ≡ list_row p.line = ap (λ (l : TextLine). record { number = None; role = list_role p.line.body; body = l.body; ending = l.ending }) (span_line text base p part) in
+    let x : held.Row = row_of (span_of text base p part) (list_role p.line.body) 0 in
+    let here : row_at text x ≡ list_row p.line = row_lined text (span_of text base p part) (list_role p.line.body) 0 p.line (span_within text base p part) (span_line text base p part) in
     ap (λ (l : List Row). l ++ map list_row (map line_at rest)) (map-append (row_at text) rows (x ∷ []))
     ∙ append_assoc (rows_at text rows) (row_at text x ∷ []) (map list_row (map line_at rest))
     ∙ ap (λ (y : Row). rows_at text rows ++ y ∷ map list_row (map line_at rest)) here

@@ -8,11 +8,11 @@ use Rattle.sk_records.specs.declared.items.Item.{Item}
 use Rattle.sk_records.specs.declared.items.Item.TheVariants.{Held}
 use Rattle.sk_records.specs.Kinds.{same_kind, kinds_to}
 use Rattle.sk_records.specs.Blocks.{Block, Loose, Record, records, is_of, has, tail_len, end_of_last, first_end, new_place}
-use Rattle.sk_records.specs.Held.{rec_at, blocks_at}
-use Rattle.sk_records.specs.Places.{places_from}
-use Rattle.sk_records.specs.Inserted.{last_of, nearest}
-use Rattle.sk_records.proofs.MadeAnew.{two}
-use Rattle.sk_records.proofs.RecordsAfter.{records-append}
+use Rattle.sk_records.specs.Holding.Held.{rec_at, blocks_at}
+use Rattle.sk_records.specs.Holding.Places.{places_from}
+use Rattle.sk_records.specs.Holding.Inserted.{last_of, nearest}
+use Rattle.sk_records.specs.Laws.MadeAnew.{two}
+use Rattle.sk_records.specs.Laws.RecordsAfter.{records-append}
 use Rattle.sk_records.proofs.HeldLines.{blocks-append}
 use Rattle.sk_records.proofs.PlacesLemmas.{length_places}
 use Rattle.sk_records.proofs.ItemSet.{split_at}

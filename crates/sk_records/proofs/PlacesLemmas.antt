@@ -11,12 +11,12 @@ use Rattle.sk_records.specs.declared.items.Record as held_record
 use Rattle.sk_records.specs.Kinds.{kind_place, same_kind}
 use Rattle.sk_records.specs.Rows.{Row, last_value, last_number, value_in, is_known}
 use Rattle.sk_records.specs.Blocks.{Loose, records}
-use Rattle.sk_records.specs.Held.{bytes_at, rows_at, item_blocks, blocks_at, ItemWithin, RecordWithin}
+use Rattle.sk_records.specs.Holding.Held.{bytes_at, rows_at, item_blocks, blocks_at, ItemWithin, RecordWithin}
 use Rattle.sk_text.specs.Lines.{TextLine, lines_in}
 use Rattle.sk_records.specs.declared.items.Stretch.{Stretch}
-use Rattle.sk_records.specs.Places.{places_from, all_places, lists_of}
-use Rattle.sk_records.proofs.MadeAnew.{two}
-use Rattle.sk_records.proofs.RecordsAfter.{records-append}
+use Rattle.sk_records.specs.Holding.Places.{places_from, all_places, lists_of}
+use Rattle.sk_records.specs.Laws.MadeAnew.{two}
+use Rattle.sk_records.specs.Laws.RecordsAfter.{records-append}
 
 -- the number of a key that no line has is none
 pub number_or_none : (key : List ℕ) (rows : List Row) → cond (is_known (last_value key rows)) (last_number key rows) None ≡ last_number key rows

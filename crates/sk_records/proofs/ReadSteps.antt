@@ -4,15 +4,15 @@ use Rattle.std.proofs.lemmas.Option.{some_pair_parts}
 use Rattle.std.proofs.lemmas.List.{take_at, drop_at, length-take}
 use Rattle.std.proofs.Math.Seq.{take-add}
 use Rattle.sk_text.specs.Lines.{TextLine, PlacedLine, line_bytes, lines_in, AreLines}
-use Rattle.sk_text.proofs.Whole.{one_line}
+use Rattle.sk_text.specs.LineLaws.{one_line}
 use Rattle.sk_records.specs.declared.faults.ReadFault.{ReadFault}
 use Rattle.sk_records.specs.declared.faults.ReadFault.TheVariants as fault
 use Rattle.sk_records.specs.declared.rows.Span.{Span}
 use Rattle.sk_records.specs.Blocks.{Block}
 use Rattle.sk_records.specs.Reading.{State, Step, Bad, Goes, Gives, onward, with_block, read_from, at_end, step}
-use Rattle.sk_records.specs.Held.{blocks_at, bytes_at, line_at as line_held, IsWithin}
+use Rattle.sk_records.specs.Holding.Held.{blocks_at, bytes_at, line_at as line_held, IsWithin}
 use Rattle.sk_records.specs.declared.items.Item.{Item}
-use Rattle.sk_records.specs.Moves.{Moves, moved, onto, IsFault, IsPartFrom, IsLine}
+use Rattle.sk_records.specs.Holding.Moves.{Moves, moved, onto, IsFault, IsPartFrom, IsLine}
 use Rattle.sk_records.proofs.HeldLines.{drop_drop}
 
 onto_block : (bs : List Block) (b : Block) (r : Result (List Block) ReadFault) → onto bs (with_block b r) ≡ onto (bs ++ (b ∷ [])) r
@@ -61,7 +61,7 @@ module _ (text : List ℕ) (base : ℕ) (p : PlacedLine) (part : IsPartFrom text
   span_of = record { start = base + p.at; body_end = base + p.at + length p.line.body; end = base + p.at + length p.line.body + length p.line.ending }
 
   pub span_within : IsWithin text span_of
-  span_within = record { body = omega arith; ending = omega arith; within = omega (arith, part.within, length-append p.line.body p.line.ending) }
+  span_within = record { body = omega arith; ending = omega arith; short = omega (arith, part.short); within = omega (arith, part.within, length-append p.line.body p.line.ending) }
 
   pub span_line : line_held text span_of ≡ p.line
   span_line =

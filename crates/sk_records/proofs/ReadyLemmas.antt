@@ -10,11 +10,11 @@ use Rattle.sk_records.specs.declared.items.Item.TheVariants.{Held}
 use Rattle.sk_records.specs.declared.spots.Before.TheVariants as before
 use Rattle.sk_records.specs.Kinds.{kinds_to}
 use Rattle.sk_records.specs.Blocks.{Block, Loose, Record, is_blank, tail_len, new_place}
-use Rattle.sk_records.specs.Held.{rec_at, blocks_at, ItemWithin}
-use Rattle.sk_records.specs.Inserted.{nearest, HasRoom, StandsAlike}
-use Rattle.sk_records.specs.Spots.{IsTail, IsSpot}
-use Rattle.sk_records.specs.Ready.{IsReady}
-use Rattle.sk_records.proofs.MadeAnew.{two}
+use Rattle.sk_records.specs.Holding.Held.{rec_at, blocks_at, ItemWithin}
+use Rattle.sk_records.specs.Holding.Inserted.{nearest, HasRoom, StandsAlike}
+use Rattle.sk_records.specs.Holding.Spots.{IsTail, IsSpot}
+use Rattle.sk_records.specs.Holding.Ready.{IsReady}
+use Rattle.sk_records.specs.Laws.MadeAnew.{two}
 use Rattle.sk_records.proofs.HeldLines.{blocks-append, all_left, all_right}
 use Rattle.sk_records.proofs.NewPlace.{IsNewPlace, new_place_none}
 

@@ -15,16 +15,16 @@ use Rattle.sk_records.specs.declared.spots.Before.{Before}
 use Rattle.sk_records.specs.declared.spots.Before.TheVariants as before
 use Rattle.sk_records.specs.Kinds.{kind_place}
 use Rattle.sk_records.specs.Blocks.{Block, Rec, Loose, Record, new_place, feed_line, ended, ended_line, ended_last, add_records}
-use Rattle.sk_records.specs.Held.{line_at, rows_at, rec_at, item_blocks, blocks_at, IsWithin, RecordWithin, ItemWithin}
-use Rattle.sk_records.specs.Places.{places_from, lists_of, list_of}
-use Rattle.sk_records.specs.BookHeld.{book_blocks, IsHeld, IsBook}
-use Rattle.sk_records.specs.Grown.{IsGrown}
-use Rattle.sk_records.specs.Inserted.{HasRoom}
-use Rattle.sk_records.specs.Ready.{IsReady, IsNew, IsPut, IsKept, IsAdded, with_close, close_span}
+use Rattle.sk_records.specs.Holding.Held.{line_at, rows_at, rec_at, item_blocks, blocks_at, IsWithin, RecordWithin, ItemWithin}
+use Rattle.sk_records.specs.Holding.Places.{places_from, lists_of, list_of}
+use Rattle.sk_records.specs.Holding.BookHeld.{book_blocks, IsHeld, IsBook}
+use Rattle.sk_records.specs.Holding.Grown.{IsGrown}
+use Rattle.sk_records.specs.Holding.Inserted.{HasRoom}
+use Rattle.sk_records.specs.Holding.Ready.{IsReady, IsNew, IsPut, IsKept, IsAdded, with_close, close_span}
 use Rattle.sk_records.specs.Given.{IsOneRecord, given_records}
-use Rattle.sk_records.specs.GivenHeld.{IsRecordOf}
+use Rattle.sk_records.specs.Holding.GivenHeld.{IsRecordOf}
 use Rattle.sk_records.specs.Written.{IsText}
-use Rattle.sk_records.proofs.TextKept.{given_one, text_added}
+use Rattle.sk_records.specs.Laws.TextKept.{given_one, text_added}
 use Rattle.sk_records.proofs.HeldLines.{blocks-append, all_left, all_right}
 use Rattle.sk_records.proofs.Growth.{line_same, item_same, blocks_same, book_same, span_grows, item_grows, items_grow, rows_grow}
 use Rattle.sk_records.proofs.ItemSet.{places_swapped}

@@ -11,12 +11,12 @@ use Rattle.sk_records.specs.declared.items.Item.{Item}
 use Rattle.sk_records.specs.declared.items.Item.TheVariants.{Gone, Lines, Held}
 use Rattle.sk_records.specs.Kinds.{same_kind, kind_place}
 use Rattle.sk_records.specs.Blocks.{Block, Rec, Loose, Record, records, with_tails, feed_line, new_place, ended_last, put_at, add_records}
-use Rattle.sk_records.specs.Held.{bytes_at, line_at, rec_at, item_blocks, blocks_at}
-use Rattle.sk_records.specs.Places.{holds, places_from, all_places, lists_of, list_of}
-use Rattle.sk_records.specs.BookHeld.{book_blocks}
-use Rattle.sk_records.specs.Inserted.{HasRoom}
-use Rattle.sk_records.proofs.ReadSound.{same_kinds}
-use Rattle.sk_records.proofs.RecordsAfter.{none_behind}
+use Rattle.sk_records.specs.Holding.Held.{bytes_at, line_at, rec_at, item_blocks, blocks_at}
+use Rattle.sk_records.specs.Holding.Places.{holds, places_from, all_places, lists_of, list_of}
+use Rattle.sk_records.specs.Holding.BookHeld.{book_blocks}
+use Rattle.sk_records.specs.Holding.Inserted.{HasRoom}
+use Rattle.sk_records.specs.Laws.ReadSound.{same_kinds}
+use Rattle.sk_records.specs.Laws.RecordsAfter.{none_behind}
 use Rattle.sk_records.proofs.HeldLines.{blocks-append}
 use Rattle.sk_records.proofs.PlacesLemmas.{length_places, list_of_kind}
 use Rattle.sk_records.proofs.BookDropped.{places-append}

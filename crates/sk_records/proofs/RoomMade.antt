@@ -10,11 +10,11 @@ use Rattle.sk_records.specs.declared.kinds.Kind.{Kind}
 use Rattle.sk_records.specs.declared.kinds.Kind.TheVariants.{Group, Param, Request, Entity, Constraint, Style}
 use Rattle.sk_records.specs.declared.items.Item.{Item}
 use Rattle.sk_records.specs.declared.items.Item.TheVariants.{Gone, Lines, Held}
-use Rattle.sk_records.specs.Held.{blocks_at, ItemWithin}
-use Rattle.sk_records.specs.Places.{holds, places_from, all_places, lists_of}
-use Rattle.sk_records.specs.Removed.{is_gone}
-use Rattle.sk_records.specs.Inserted.{shifted, HasRoom, StandsAlike}
-use Rattle.sk_records.proofs.MadeAnew.{two}
+use Rattle.sk_records.specs.Holding.Held.{blocks_at, ItemWithin}
+use Rattle.sk_records.specs.Holding.Places.{holds, places_from, all_places, lists_of}
+use Rattle.sk_records.specs.Holding.Removed.{is_gone}
+use Rattle.sk_records.specs.Holding.Inserted.{shifted, HasRoom, StandsAlike}
+use Rattle.sk_records.specs.Laws.MadeAnew.{two}
 use Rattle.sk_records.proofs.HeldLines.{blocks-append, all_left, all_right}
 use Rattle.sk_records.proofs.BookDropped.{places-append}
 use Rattle.sk_records.proofs.Shifted.{places_below}

@@ -1,5 +1,5 @@
 -- A value that is set among the lines of a record, where they stand.
-use Rattle.std.proofs.Common.{◌≡◌, ℕ, suc, ◌<◌, List, [], ◌∷◌, ◌++◌, map, length, get_or, set, refl, ap, sym, ◌∙◌, cond, true, false, Bool, arith, Option, Some, None}
+use Rattle.std.proofs.Common.{◌≡◌, ℕ, suc, ◌+◌, ◌-◌, ◌<◌, List, [], ◌∷◌, ◌++◌, map, length, get_or, set, refl, ap, sym, ◌∙◌, cond, true, false, Bool, arith, Option, Some, None}
 use Rattle.std.specs.Option.{option_map, option_or}
 use Rattle.std.specs.List.{All}
 use Rattle.std.proofs.lemmas.List.{map-set, map-append}
@@ -9,10 +9,10 @@ use Rattle.sk_records.specs.declared.rows.Row as held
 use Rattle.sk_records.specs.declared.items.Record as held_record
 use Rattle.sk_records.specs.declared.items.Item.{Item}
 use Rattle.sk_records.specs.declared.items.Item.TheVariants.{Gone, Lines, Held}
-use Rattle.sk_records.specs.Rows.{Row, Plain, last_value, last_place, value_in, is_known, value_body, added_row, with_body, with_value}
+use Rattle.sk_records.specs.Rows.{Row, Role, Plain, last_value, last_place, value_in, is_known, value_body, added_row, with_body, with_value}
 use Rattle.sk_records.specs.Blocks.{Loose, Record, with_rows}
-use Rattle.sk_records.specs.Held.{bytes_at, line_at, row_at, rows_at, item_blocks, RowWithin, RecordWithin}
-use Rattle.sk_records.specs.Grown.{IsGrown}
+use Rattle.sk_records.specs.Holding.Held.{bytes_at, line_at, number_held, row_of, row_at, rows_at, item_blocks, IsWithin, RowWithin, RecordWithin}
+use Rattle.sk_records.specs.Holding.Grown.{IsGrown}
 use Rattle.std.proofs.Math.ListN.{get_or-map}
 use Rattle.sk_records.proofs.Growth.{rows_same, line_same}
 
@@ -58,31 +58,38 @@ value_at_end key value (r ∷ rs) e = rw (place_known key rs) (by_place (last_pl
     by_place None false e f = ap (λ l. r ∷ l) (f refl)
     by_place (Some j) t e f = cc
 
-row_lined : (text : List ℕ) (r : held.Row) (body ending : List ℕ) → line_at text r.span ≡ record { body = body; ending = ending } → row_at text r ≡ record { number = r.number; role = r.role; body = body; ending = ending }
-row_lined text r body ending e = ap (λ (l : TextLine). record { number = r.number; role = r.role; body = l.body; ending = l.ending }) e
+-- a held line whose places are those of a line of the text
+pub row_lined : (text : List ℕ) (s : Span) (role : Role) (n : ℕ) (l : TextLine) → IsWithin text s → line_at text s ≡ l → row_at text (row_of s role n) ≡ record { number = number_held n; role = role; body = l.body; ending = l.ending }
+row_lined text s role n l is e =
+    let places : s.body_end + (s.end - s.body_end) ≡ s.end = omega (arith, is.ending) in
+    ap (λ (k : ℕ). record { number = number_held n; role = role; body = bytes_at text s.start s.body_end; ending = bytes_at text s.body_end k }) places
+    ∙ ap (λ (l : TextLine). record { number = number_held n; role = role; body = l.body; ending = l.ending }) e
+
+pub row_within : (text : List ℕ) (s : Span) (role : Role) (n : ℕ) → IsWithin text s → RowWithin text (row_of s role n)
+row_within text s role n is = record { body = is.body; ending = omega arith; short = omega (arith, is.ending, is.short); within = omega (arith, is.ending, is.within) }
 
 -- the held lines after a line was changed
 pub rows_set : (old new : List ℕ) (rows : List held.Row) (at : ℕ) (r : held.Row) (s : Span) (key value : List ℕ) → IsGrown old new → All (RowWithin old) rows → r ≡ get_or rows at r →
-    line_at new s ≡ record { body = value_body key value; ending = bytes_at old r.span.body_end r.span.end } → last_place key (rows_at old rows) ≡ Some at →
-    rows_at new (set rows at (record { span = s; role = r.role; number = r.number })) ≡ with_value key value (rows_at old rows)
-rows_set old new rows at r s key value g all is line place =
-    let x : held.Row = record { span = s; role = r.role; number = r.number } in
+    IsWithin new s → line_at new s ≡ record { body = value_body key value; ending = bytes_at old r.body_end (r.body_end + r.end_len) } → last_place key (rows_at old rows) ≡ Some at →
+    rows_at new (set rows at (row_of s r.role r.number)) ≡ with_value key value (rows_at old rows)
+rows_set old new rows at r s key value g all is within line place =
+    let x : held.Row = row_of s r.role r.number in
     let here : get_or (rows_at old rows) at (row_at old r) ≡ row_at old r = get_or-map (row_at old) rows at r ∙ ap (row_at old) (sym is) in
     map-set (row_at new) rows at x
     ∙ ap (λ (l : List Row). set l at (row_at new x)) (rows_same old new rows g all)
-    ∙ ap (set (rows_at old rows) at) (row_lined new x (value_body key value) (bytes_at old r.span.body_end r.span.end) line)
+    ∙ ap (set (rows_at old rows) at) (row_lined new s r.role r.number (record { body = value_body key value; ending = bytes_at old r.body_end (r.body_end + r.end_len) }) within line)
     ∙ ap (λ (y : Row). set (rows_at old rows) at (with_body (value_body key value) y)) (sym here)
     ∙ sym (value_at_place key value (rows_at old rows) at (row_at old r) place)
 
 -- the held lines after a line was added
 pub rows_pushed : (old new : List ℕ) (rows : List held.Row) (s : Span) (key value : List ℕ) → IsGrown old new → All (RowWithin old) rows →
-    line_at new s ≡ record { body = value_body key value; ending = 10 ∷ [] } → last_place key (rows_at old rows) ≡ None →
-    rows_at new (rows ++ record { span = s; role = Plain; number = None } ∷ []) ≡ with_value key value (rows_at old rows)
-rows_pushed old new rows s key value g all line place =
-    let x : held.Row = record { span = s; role = Plain; number = None } in
+    IsWithin new s → line_at new s ≡ record { body = value_body key value; ending = 10 ∷ [] } → last_place key (rows_at old rows) ≡ None →
+    rows_at new (rows ++ row_of s Plain 0 ∷ []) ≡ with_value key value (rows_at old rows)
+rows_pushed old new rows s key value g all within line place =
+    let x : held.Row = row_of s Plain 0 in
     map-append (row_at new) rows (x ∷ [])
     ∙ ap (λ (l : List Row). l ++ row_at new x ∷ []) (rows_same old new rows g all)
-    ∙ ap (λ (y : Row). rows_at old rows ++ y ∷ []) (row_lined new x (value_body key value) (10 ∷ []) line)
+    ∙ ap (λ (y : Row). rows_at old rows ++ y ∷ []) (row_lined new s Plain 0 (record { body = value_body key value; ending = 10 ∷ [] }) within line)
     ∙ sym (value_at_end key value (rows_at old rows) place)
 
 -- where no record stands, nothing changes

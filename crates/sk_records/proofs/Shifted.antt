@@ -8,9 +8,9 @@ use Rattle.sk_records.specs.declared.kinds.Kind.{Kind}
 use Rattle.sk_records.specs.declared.kinds.Kind.TheVariants.{Group, Param, Request, Entity, Constraint, Style}
 use Rattle.sk_records.specs.declared.items.Item.{Item}
 use Rattle.sk_records.specs.Kinds.{kinds_to}
-use Rattle.sk_records.specs.Places.{holds, places_from, all_places}
-use Rattle.sk_records.specs.Inserted.{last_of, nearest}
-use Rattle.sk_records.proofs.MadeAnew.{two}
+use Rattle.sk_records.specs.Holding.Places.{holds, places_from, all_places}
+use Rattle.sk_records.specs.Holding.Inserted.{last_of, nearest}
+use Rattle.sk_records.specs.Laws.MadeAnew.{two}
 
 -- an element that is still as it was
 pub still : {X : Type 0} (old now : List X) (i : ℕ) (x : X) → drop i now ≡ drop i old → i < length now → i < length old → x ≡ get_or now i x → x ≡ get_or old i x

@@ -13,11 +13,11 @@ use Rattle.sk_records.specs.declared.items.Item.TheVariants.{Gone, Lines, Held}
 use Rattle.sk_records.specs.declared.spots.Front.{Front}
 use Rattle.sk_records.specs.declared.spots.Front.TheVariants.{Other, Blank, BlankAndMore}
 use Rattle.sk_records.specs.Blocks.{Block, Loose, tail_len, ended_line}
-use Rattle.sk_records.specs.Held.{bytes_at, item_blocks, blocks_at, StretchWithin, ItemWithin}
-use Rattle.sk_records.specs.Places.{places_from, all_places}
-use Rattle.sk_records.specs.Removed.{is_gone, blank_len, shrink_first}
-use Rattle.sk_records.specs.Spots.{gone_len, front_of, IsSpot}
-use Rattle.sk_records.proofs.MadeAnew.{two}
+use Rattle.sk_records.specs.Holding.Held.{bytes_at, item_blocks, blocks_at, StretchWithin, ItemWithin}
+use Rattle.sk_records.specs.Holding.Places.{places_from, all_places}
+use Rattle.sk_records.specs.Holding.Removed.{is_gone, blank_len, shrink_first}
+use Rattle.sk_records.specs.Holding.Spots.{gone_len, front_of, IsSpot}
+use Rattle.sk_records.specs.Laws.MadeAnew.{two}
 use Rattle.sk_records.proofs.HeldLines.{blocks-append, length_bytes, bytes_join, all_right}
 use Rattle.sk_records.proofs.Blank.{first_line, blank_within, none_at_end, blocks_shrunk, first_within, places_shrunk}
 use Rattle.sk_records.proofs.ItemSet.{all_same}

@@ -1,22 +1,24 @@
 -- What stays of items where the records of a kind go, and their tails.
-use Rattle.std.proofs.Common.{◌≡◌, inl, inr, ℕ, ◌-◌, List, [], ◌∷◌, ◌++◌, map, length, take, drop, refl, ap, sym, ◌∙◌, append_assoc, cond, true, false, Bool, arith, subst, Some, None}
+use Rattle.std.specs.Prelude.{if◌then◌else◌}
+use Rattle.std.proofs.Common.{◌≡◌, inl, inr, ℕ, ◌+◌, ◌-◌, nat_eq, List, [], ◌∷◌, ◌++◌, map, length, drop, refl, ap, sym, ◌∙◌, Option, cond, true, false, Bool, arith, subst, Some, None}
 use Rattle.std.specs.List.{All}
-use Rattle.std.proofs.lemmas.List.{append-nil, take-append-drop}
-use Rattle.std.proofs.lemmas.List.Elements.{All-nil, All-push, All-append}
+use Rattle.std.proofs.lemmas.List.Elements.{All-head, All-tail, All-cons}
 use Rattle.sk_text.specs.Lines.{TextLine, lines_in, is_empty}
 use Rattle.sk_records.specs.declared.kinds.Kind.{Kind}
 use Rattle.sk_records.specs.declared.items.Item.{Item}
 use Rattle.sk_records.specs.declared.items.Item.TheVariants.{Gone, Lines, Held}
 use Rattle.sk_records.specs.Blocks.{Block, Loose, Record, without, tail_len}
-use Rattle.sk_records.specs.Held.{bytes_at, rec_at, item_blocks, blocks_at, ItemWithin}
-use Rattle.sk_records.specs.Places.{holds}
-use Rattle.sk_records.specs.Removed.{shrunk, or_else, is_gone}
-use Rattle.sk_records.specs.Copied.{IsCopy, AreCopies}
-use Rattle.sk_records.specs.Anew.{is_after, cut_after, IsLeft, IsPushed, StaysSoFar}
-use Rattle.sk_records.proofs.MadeAnew.{two}
-use Rattle.sk_records.proofs.HeldLines.{blocks-append, length_bytes, all_left}
+use Rattle.sk_records.specs.Holding.Held.{bytes_at, rec_at, item_blocks, blocks_at, ItemWithin}
+use Rattle.sk_records.specs.Holding.Places.{holds, places_from}
+use Rattle.sk_records.specs.declared.items.Stretch.{Stretch}
+use Rattle.sk_records.specs.Kinds.{same_kind}
+use Rattle.sk_records.specs.Holding.Removed.{shrunk, or_else, is_gone, blank_len, cut_front}
+use Rattle.sk_records.specs.Holding.Anew.{is_after, cut_after, left_item, left_items, IsLeft}
+use Rattle.sk_records.specs.Laws.MadeAnew.{two}
+use Rattle.sk_records.proofs.HeldLines.{length_bytes}
 use Rattle.sk_records.proofs.Blank.{first_line, item_shrunk, shrunk_within}
-use Rattle.sk_records.proofs.CopyLemmas.{gone_none}
+use Rattle.sk_records.specs.Laws.ReadSound.{same_kinds}
+use Rattle.sk_records.specs.Laws.ReadAgain.{same_kind_refl}
 
 without_loose : (k : Kind) (ls : List TextLine) (more : List Block) → without k false (map Loose ls ++ more) ≡ map Loose ls ++ without k false more
 without_loose k [] more = refl
@@ -56,7 +58,7 @@ left_cut text k true (Lines s) y h is e =
     let same : or_else (Lines s) (shrunk text (Lines s)) ≡ y = ap (or_else (Lines s)) (sym e) in
     subst (IsLeft text k true (Lines s)) same (left_lines text k (Lines s) refl refl h is)
 
-left_same : (text : List ℕ) (k : Kind) (t : Bool) (x : Item) → holds k x ≡ false → ItemWithin text x → None ≡ cut_after text t x → IsLeft text k t x x
+pub left_same : (text : List ℕ) (k : Kind) (t : Bool) (x : Item) → holds k x ≡ false → ItemWithin text x → None ≡ cut_after text t x → IsLeft text k t x x
 left_same text k t Gone h is e = record { blocks = λ more. refl; within = tt }
 left_same text k t (Held r) h is e = record { blocks = λ more. rw h (either t more); within = is }
   where
@@ -68,42 +70,85 @@ left_same text k true (Lines s) h is e =
     let same : or_else (Lines s) (shrunk text (Lines s)) ≡ Lines s = ap (or_else (Lines s)) (sym e) in
     subst (IsLeft text k true (Lines s)) same (left_lines text k (Lines s) refl refl h is)
 
-pub left_copy : (text : List ℕ) (k : Kind) (t : Bool) (x y : Item) → holds k x ≡ false → ItemWithin text x → None ≡ cut_after text t x → IsCopy x y → IsLeft text k t x y
-left_copy text k t x y h is e copy =
-    let own = left_same text k t x h is e in
-    record { blocks = λ more. ap (λ b. b ++ without k (is_after k t x) more) (copy.blocks text) ∙ own.blocks more; within = copy.within text is }
+pub left_is : (text : List ℕ) (k : Kind) (t : Bool) (x : Item) → ItemWithin text x → IsLeft text k t x (left_item text k t x)
+left_is text k t x is = elim (two (holds k x)) [
+  | inl e ↦ rw e (left_gone text k t x e)
+  | inr e ↦ rw e (by_cut (cut_after text t x) refl e)
+]
+  where
+    by_cut : (o : Option Item) → o ≡ cut_after text t x → holds k x ≡ false → IsLeft text k t x (or_else x o)
+    by_cut None f e = left_same text k t x e is f
+    by_cut (Some y) f e = left_cut text k t x y e is f
 
-pub pushed_none : (out : List Item) (x : Item) → is_gone x ≡ true → IsPushed out out x
-pushed_none out x g = record { blocks = λ text. sym (ap (λ b. blocks_at text out ++ b) (gone_none text x g) ∙ append-nil (blocks_at text out)); within = λ text all is. all }
+-- the blocks of what stays
+pub left_blocks : (text : List ℕ) (k : Kind) (t : Bool) (xs : List Item) → All (ItemWithin text) xs → blocks_at text (left_items text k t xs) ≡ without k t (blocks_at text xs)
+left_blocks text k t [] all = refl
+left_blocks text k t (x ∷ xs) all =
+    ap (λ (b : List Block). item_blocks text (left_item text k t x) ++ b) (left_blocks text k (is_after k t x) xs (All-tail (ItemWithin text) x xs all))
+    ∙ (left_is text k t x (All-head (ItemWithin text) x xs all)).blocks (blocks_at text xs)
 
-pub pushed_one : (out : List Item) (x : Item) → IsPushed out (out ++ x ∷ []) x
-pushed_one out x = record {
-  blocks = λ text. blocks-append text out (x ∷ []) ∙ ap (λ b. blocks_at text out ++ b) (append-nil (item_blocks text x));
-  within = λ text all is. All-push (ItemWithin text) out x all is;
-}
+pub left_within : (text : List ℕ) (k : Kind) (t : Bool) (xs : List Item) → All (ItemWithin text) xs → All (ItemWithin text) (left_items text k t xs)
+left_within text k t [] all = all
+left_within text k t (x ∷ xs) all = All-cons (ItemWithin text) (left_item text k t x) (left_items text k (is_after k t x) xs) (left_is text k t x (All-head (ItemWithin text) x xs all)).within (left_within text k (is_after k t x) xs (All-tail (ItemWithin text) x xs all))
 
-pub stays_none : (text : List ℕ) (k : Kind) (all : List Item) → StaysSoFar text k all [] all false
-stays_none text k all = record { blocks = refl; within = All-nil (ItemWithin text) }
+-- ---- the places
 
-pub stays_more : (text : List ℕ) (k : Kind) (all out next rest : List Item) (t : Bool) (x y : Item) → StaysSoFar text k all out (x ∷ rest) t → IsLeft text k t x y → IsPushed out next y → StaysSoFar text k all next rest (is_after k t x)
-stays_more text k all out next rest t x y so left pushed = record {
-  blocks = ap (λ b. b ++ without k (is_after k t x) (blocks_at text rest)) (pushed.blocks text)
-      ∙ append_assoc (blocks_at text out) (item_blocks text y) (without k (is_after k t x) (blocks_at text rest))
-      ∙ ap (λ b. blocks_at text out ++ b) (left.blocks (blocks_at text rest))
-      ∙ so.blocks;
-  within = pushed.within text so.within left.within;
-}
+abbrev pub stays_of : Kind → Kind → Bool → Bool
+stays_of k j t = if same_kind j k then false else t
 
--- new items between copies
-module _ (text : List ℕ) (k : Kind) (items front out new rest back all : List Item) (at : ℕ) (front_is : front ≡ take at items) (rest_is : rest ≡ drop at items) (copies : AreCopies out front) (stays : blocks_at text back ≡ without k false (blocks_at text rest)) (is : all ≡ (out ++ new) ++ back) where
-  pub replaced_blocks : blocks_at text all ≡ blocks_at text (take at items) ++ (blocks_at text new ++ without k false (blocks_at text (drop at items)))
-  replaced_blocks =
-      ap (blocks_at text) (is ∙ append_assoc out new back) ∙ blocks-append text out (new ++ back)
-      ∙ ap (λ b. b ++ blocks_at text (new ++ back)) (copies.blocks text ∙ ap (blocks_at text) front_is)
-      ∙ ap (λ b. blocks_at text (take at items) ++ b) (blocks-append text new back ∙ ap (λ b. blocks_at text new ++ b) (stays ∙ ap (λ (l : List Item). without k false (blocks_at text l)) rest_is))
+turned : (k j : Kind) → same_kind j k ≡ false → same_kind k j ≡ false
+turned k j f = elim (two (same_kind k j)) [
+  | inl e ↦ (let no : true ≡ false = sym (same_kind_refl k) ∙ ap (λ (h : Kind). same_kind h k) (same_kinds k j e) ∙ f in cc no)
+  | inr e ↦ e
+]
 
-  pub replaced_within : All (ItemWithin text) items → All (ItemWithin text) new → All (ItemWithin text) back → All (ItemWithin text) all
-  replaced_within is_within new_within back_within =
-      let whole : All (ItemWithin text) (take at items ++ drop at items) = subst (All (ItemWithin text)) (sym (take-append-drop at items)) is_within in
-      let front_within : All (ItemWithin text) front = subst (All (ItemWithin text)) (sym front_is) (all_left (ItemWithin text) (take at items) (drop at items) whole) in
-      subst (All (ItemWithin text)) (sym is) (All-append (ItemWithin text) (out ++ new) back (All-append (ItemWithin text) out new (copies.within text front_within) new_within) back_within)
+-- a record of the kind holds no other kind
+pub gone_kinds : (k : Kind) (x : Item) → holds k x ≡ true → (j : Kind) → false ≡ stays_of k j (holds j x)
+gone_kinds k Gone e j = cc
+gone_kinds k (Lines s) e j = cc
+gone_kinds k (Held r) e j = elim (two (same_kind j k)) [
+  | inl f ↦ rw f refl
+  | inr f ↦ rw f (sym (ap (λ (h : Kind). same_kind h j) (same_kinds r.kind k e) ∙ turned k j f))
+]
+
+pub other_kinds : (k : Kind) (x : Item) → holds k x ≡ false → (j : Kind) → holds j x ≡ stays_of k j (holds j x)
+other_kinds k x e j = elim (two (same_kind j k)) [
+  | inl f ↦ rw f (ap (λ (i : Kind). holds i x) (same_kinds j k f) ∙ e)
+  | inr f ↦ rw f refl
+]
+
+-- what is left of lines is no record
+cut_none : (s : Stretch) (n : ℕ) (y : Item) → Some y ≡ cut_front s n → (j : Kind) → holds j y ≡ false
+cut_none s n y e j = elim (two (nat_eq n 0)) [
+  | inl a ↦ (let no : Some y ≡ None = rw a at e in cc no)
+  | inr a ↦ elim (two (nat_eq (s.start + n) s.end)) [
+    | inl b ↦ (let is : Some y ≡ Some Gone = rw (a, b) at e in let same : y ≡ Gone = cc in ap (holds j) same)
+    | inr b ↦ (let is : Some y ≡ Some (Lines (record { start = s.start + n; end = s.end })) = rw (a, b) at e in let same : y ≡ Lines (record { start = s.start + n; end = s.end }) = cc in ap (holds j) same)
+  ]
+]
+
+pub cut_kinds : (text : List ℕ) (k : Kind) (t : Bool) (x y : Item) → Some y ≡ cut_after text t x → holds k x ≡ false → (j : Kind) → holds j y ≡ stays_of k j (holds j x)
+cut_kinds text k false x y e n j = cc
+cut_kinds text k true Gone y e n j = cc
+cut_kinds text k true (Held r) y e n j = cc
+cut_kinds text k true (Lines s) y e n j = cut_none s (blank_len (bytes_at text s.start s.end)) y e j ∙ out (same_kind j k)
+  where
+    out : (t : Bool) → false ≡ (if t then false else false)
+    out true = refl
+    out false = refl
+
+left_kinds : (text : List ℕ) (k : Kind) (t : Bool) (x : Item) (j : Kind) → holds j (left_item text k t x) ≡ stays_of k j (holds j x)
+left_kinds text k t x j = elim (two (holds k x)) [
+  | inl e ↦ rw e (gone_kinds k x e j)
+  | inr e ↦ rw e (by_cut (cut_after text t x) refl e)
+]
+  where
+    by_cut : (o : Option Item) → o ≡ cut_after text t x → holds k x ≡ false → holds j (or_else x o) ≡ stays_of k j (holds j x)
+    by_cut None f e = other_kinds k x e j
+    by_cut (Some y) f e = cut_kinds text k t x y f e j
+
+-- the places of the records that stay
+pub left_places : (text : List ℕ) (k j : Kind) (t : Bool) (n : ℕ) (xs : List Item) → places_from j n (left_items text k t xs) ≡ (if same_kind j k then [] else places_from j n xs)
+left_places text k j t n [] = elim (two (same_kind j k)) [ inl e ↦ rw e refl | inr e ↦ rw e refl ]
+left_places text k j t n (x ∷ xs) =
+    rw (left_kinds text k t x j, left_places text k j (is_after k t x) (n + 1) xs) (elim (two (same_kind j k)) [ inl e ↦ rw e refl | inr e ↦ rw e refl ])

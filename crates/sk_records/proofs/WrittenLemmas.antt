@@ -5,7 +5,7 @@ use Rattle.std.proofs.lemmas.List.{append-nil, take-append-le, take-append-drop,
 use Rattle.std.proofs.Math.Seq.{take-append_seam, drop-append-add}
 use Rattle.std.proofs.lemmas.Grind.{flat_map-append}
 use Rattle.sk_text.specs.Lines.{TextLine, PlacedLine, lines_in, line_bytes, joined, IsPart}
-use Rattle.sk_text.proofs.Whole.{lines_joined}
+use Rattle.sk_text.specs.LineLaws.{lines_joined}
 use Rattle.sk_records.specs.declared.rows.Row as held
 use Rattle.sk_records.specs.declared.items.Stretch.{Stretch}
 use Rattle.sk_records.specs.declared.items.Record as held_record
@@ -14,8 +14,8 @@ use Rattle.sk_records.specs.declared.items.Item.TheVariants.{Lines, Held}
 use Rattle.sk_records.specs.Blocks.{Block, Loose}
 use Rattle.sk_records.specs.Reading.{row_lines, block_lines}
 use Rattle.sk_records.specs.Written.{lines_of, bytes_of}
-use Rattle.sk_records.specs.Held.{bytes_at, line_at, rows_at, item_blocks, blocks_at, IsWithin, RowWithin}
-use Rattle.sk_records.specs.Moves.{IsPartFrom}
+use Rattle.sk_records.specs.Holding.Held.{bytes_at, line_at, row_span, rows_at, item_blocks, blocks_at, IsWithin, RowWithin}
+use Rattle.sk_records.specs.Holding.Moves.{IsPartFrom}
 use Rattle.sk_records.proofs.HeldLines.{line_bytes_at}
 
 -- what was there stays there where more is put behind it
@@ -45,11 +45,11 @@ record_bytes text r is =
 
 -- one more line of a record
 pub rows_more : (text : List ℕ) (rows : List held.Row) (i : ℕ) (d : held.Row) → i < length rows → All (RowWithin text) rows → let r = get_or rows i d in
-    joined (row_lines (rows_at text (drop i rows))) ≡ bytes_at text r.span.start r.span.end ++ joined (row_lines (rows_at text (drop (i + 1) rows)))
+    joined (row_lines (rows_at text (drop i rows))) ≡ bytes_at text r.start (r.body_end + r.end_len) ++ joined (row_lines (rows_at text (drop (i + 1) rows)))
 rows_more text rows i d lt all =
     let r = get_or rows i d in
     ap (λ (rs : List held.Row). joined (row_lines (rows_at text rs))) (drop_more rows i d lt)
-    ∙ ap (λ x. x ++ joined (row_lines (rows_at text (drop (i + 1) rows)))) (line_bytes_at text r.span (all i d lt))
+    ∙ ap (λ x. x ++ joined (row_lines (rows_at text (drop (i + 1) rows)))) (line_bytes_at text (row_span r) (all i d lt))
 
 -- one more item
 pub items_more : (text : List ℕ) (items : List Item) (i : ℕ) (d : Item) → i < length items → bytes_of (blocks_at text (drop i items)) ≡ bytes_of (item_blocks text (get_or items i d)) ++ bytes_of (blocks_at text (drop (i + 1) items))
@@ -58,7 +58,7 @@ items_more text items i d lt = ap (λ (xs : List Item). bytes_of (blocks_at text
 part_from_zero : (text : List ℕ) (p : PlacedLine) → IsPart text p → IsPartFrom text 0 p
 part_from_zero text p is =
     let n : 0 + p.at ≡ p.at = omega arith in
-    record { within = omega (arith, is.within); bytes = rw n is.bytes }
+    record { within = omega (arith, is.within); bytes = rw n is.bytes; short = is.short }
 
 -- places from the start of the text
 pub parts_from_zero : (text : List ℕ) (ps : List PlacedLine) → All (IsPart text) ps → All (IsPartFrom text 0) ps
@@ -78,4 +78,5 @@ parts_behind old given new ps is all = λ k d lt. behind (get_or ps k d) (all k 
     behind p part = record {
       within = omega (arith, part.within, ap length is, length-append old given);
       bytes = rw (is, drop-append-add) part.bytes;
+      short = part.short;
     }

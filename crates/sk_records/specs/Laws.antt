@@ -1,160 +1,132 @@
--- What holds of the changes of a text, whatever the text.
-use Rattle.std.specs.Prelude.{◌≡◌, ◌≤◌, ◌^◌, ℕ, zero, suc, List, [], ◌∷◌, ◌++◌, map, Some, None, Bool, true, false, if◌then◌else◌, Ok, length}
-use Rattle.std.specs.Str.{bytes_eq}
-use Rattle.sk_text.specs.Lines.{lines_in}
-use Rattle.sk_text.specs.Keys.{parts_at_equals}
+-- What holds of the changes of a text, whatever the text: each law is stated in Statements, and proved by the files beside it.
+pub mod Statements
+pub mod MadeAnew
+pub mod RecordsAfter
+pub mod ValuesAfter
+pub mod ListsAfter
+pub mod Added
+pub mod Passes
+pub mod ReadAgain
+pub mod BlocksKept
+pub mod EndsKept
+pub mod PlaceEnded
+pub mod ClassOfLine
+pub mod ReadSound
+pub mod TextKept
+pub mod Numbers
+pub mod Numbering
+pub mod GivenWritten
+use Rattle.std.proofs.Common.{inl, inr, ◌≡◌, ◌^◌, List, [], ◌∷◌, map, length, refl, ap, sym, false, subst, ◌≤◌, Ok}
+use Rattle.std.proofs.lemmas.Bool.{le-leb}
+use Rattle.sk_text.specs.Lines.{TextLine, lines_in, joined}
 use Rattle.sk_records.specs.declared.kinds.Kind.{Kind}
 use Rattle.sk_records.specs.declared.kinds.Kind.TheVariants.{Group}
-use Rattle.sk_records.specs.Kinds.{same_kind, closing_of}
-use Rattle.sk_records.specs.Rows.{Row, Plain, added_row, value_body, last_value, with_value, is_plain, entries, with_map}
-use Rattle.sk_records.specs.Blocks.{Block, Rec, Record, AllOf, with_tails, rows_of, changed_at, removed_at, records, has, add_records, made_anew, on_record, on_records, dropped}
-use Rattle.sk_records.specs.Reading.{read_text, row_lines, block_lines}
-use Rattle.sk_records.specs.Written.{IsBlock, IsText, Opened, lines_of, bytes_of, numbered, bare_rows, bare_rec, bare}
-use Rattle.sk_records.specs.Given.{IsKey, IsValue, AllEnded, IsOneRecord, AreRecords, given_list, given_records, is_whole_list}
+use Rattle.sk_records.specs.Blocks.{Block, has, made_anew}
+use Rattle.sk_records.specs.Classes.{is_opening, is_shut}
+use Rattle.sk_records.specs.Written.{Fit, IsText, bytes_of, numbered}
+use Rattle.sk_records.specs.Given.{AllEnded, list_row, given_list}
+pub use Rattle.sk_records.specs.Laws.Statements.{RecordsLaw, ValuesLaw, NonePlain, ListsLaw, AllSame, where_it, NoneOf, Only, PassesLaw, AnewLaw, AreRecs, EndedRecords, IsGiven, KeepsRows, TextsLaw, AddedLaw, Forgets, AllForget, NumbersLaw, NumberingLaw, ReadAgainLaw, value_row, plain_record, ArePairs, GivenLaw}
+use Rattle.sk_records.specs.Laws.Added.{added_then, added_joined, changed_added}
+use Rattle.sk_records.specs.Laws.Numbering.{value_forgets, map_forgets, list_bare, given_bare, bare_changed, bare_all_changed, bare_passed, bare_added, bare_anew, bare_dropped}
+use Rattle.sk_records.specs.Laws.GivenWritten.{one_written, one_given, many_written, many_given, plain_given, plain_is_bare}
+use Rattle.sk_records.specs.Reading.{read_text}
+use Rattle.sk_records.specs.Laws.MadeAnew.{two, anew_twice}
+use Rattle.sk_records.specs.Laws.RecordsAfter.{added_same, added_other, anew_same, anew_other, changed_same, changed_other, mapped_same, mapped_other, dropped_same, dropped_other, mapped_kept}
+use Rattle.sk_records.specs.Laws.ClassOfLine.{key_keyless}
+use Rattle.sk_records.specs.Laws.ValuesAfter.{value_set, value_other, value_twice}
+use Rattle.sk_records.specs.Laws.ListsAfter.{entries_set, value_map, map_twice, entries_value}
+use Rattle.sk_records.specs.Laws.Passes.{pass_then, pass_at}
+use Rattle.sk_records.specs.Laws.Numbers.{bare_numbered, lines_bare, records_bare, value_bare, entries_bare, anew_same_lines}
+use Rattle.sk_records.specs.Laws.ReadSound.{same_kinds}
+use Rattle.sk_records.specs.Laws.ReadAgain.{text_read}
+use Rattle.sk_records.specs.Laws.BlocksKept.{opened_map, header_on_record, header_on_records}
+use Rattle.sk_records.specs.Laws.EndsKept.{ends_on_record, ends_on_records}
+use Rattle.sk_records.specs.Laws.TextKept.{text_added, text_anew, text_dropped, value_ended, value_opened, list_fits, list_lines, map_ended, given_one, given_with_tails}
 
--- ---- the records of each kind after a change
+pub records_law : RecordsLaw
+records_law = record {
+  added_same = added_same;
+  added_other = added_other;
+  anew_same = anew_same;
+  anew_other = anew_other;
+  changed_same = changed_same;
+  changed_other = changed_other;
+  mapped_same = mapped_same;
+  mapped_other = mapped_other;
+  dropped_same = dropped_same;
+  dropped_other = dropped_other;
+}
 
--- New records are the last of their kind; records made anew are the given ones; a changed record keeps its place; a record
--- that goes leaves its place. The records of the other kinds stay.
-pub record RecordsLaw : Type 0 where
-  pub added_same : (k : Kind) (rs : List Rec) (bs : List Block) → AllOf k rs → records k (add_records k rs bs) ≡ records k bs ++ rows_of rs
-  pub added_other : (k j : Kind) → same_kind k j ≡ false → (rs : List Rec) (bs : List Block) → AllOf k rs → records j (add_records k rs bs) ≡ records j bs
-  pub anew_same : (k : Kind) (rs : List Rec) (bs : List Block) → AllOf k rs → records k (made_anew k rs bs) ≡ rows_of rs
-  pub anew_other : (k j : Kind) → same_kind k j ≡ false → (rs : List Rec) (bs : List Block) → AllOf k rs → records j (made_anew k rs bs) ≡ records j bs
-  pub changed_same : (k : Kind) (i : ℕ) (f : List Row → List Row) (bs : List Block) → records k (on_record k i f bs) ≡ changed_at f i (records k bs)
-  pub changed_other : (k j : Kind) → same_kind k j ≡ false → (i : ℕ) (f : List Row → List Row) (bs : List Block) → records j (on_record k i f bs) ≡ records j bs
-  pub mapped_same : (k : Kind) (f : List Row → List Row) (bs : List Block) → records k (on_records k f bs) ≡ map f (records k bs)
-  pub mapped_other : (k j : Kind) (f : List Row → List Row) → same_kind k j ≡ false → (bs : List Block) → records j (on_records k f bs) ≡ records j bs
-  pub dropped_same : (k : Kind) (i : ℕ) (bs : List Block) → records k (dropped k i bs) ≡ removed_at i (records k bs)
-  pub dropped_other : (k j : Kind) → same_kind k j ≡ false → (i : ℕ) (bs : List Block) → records j (dropped k i bs) ≡ records j bs
+pub values_law : ValuesLaw
+values_law = record { whole_key = key_keyless; value_set = value_set; value_other = value_other; value_twice = value_twice; entries_value = entries_value }
 
--- ---- values and remap entries after a change
+rows_plain : (ls : List TextLine) → NonePlain (map list_row ls)
+rows_plain [] = tt
+rows_plain (l ∷ ls) = (elim (two (is_opening l.body)) [ inl e ↦ rw e refl | inr e ↦ elim (two (is_shut l.body)) [ inl f ↦ rw (e, f) refl | inr f ↦ rw (e, f) refl ] ], rows_plain ls)
 
--- What was set is read; the other keys and the remap entries stay; of two values the later stays.
-pub record ValuesLaw : Type 0 where
-  pub whole_key : (k : Kind) (key : List ℕ) → IsKey k key → parts_at_equals key ≡ None
-  pub value_set : (key value : List ℕ) (rows : List Row) → parts_at_equals key ≡ None → last_value key (with_value key value rows) ≡ Some value
-  pub value_other : (key other value : List ℕ) (rows : List Row) → parts_at_equals key ≡ None → bytes_eq key other ≡ false → last_value other (with_value key value rows) ≡ last_value other rows
-  pub value_twice : (key first value : List ℕ) (rows : List Row) → parts_at_equals key ≡ None → with_value key value (with_value key first rows) ≡ with_value key value rows
-  pub entries_value : (key value : List ℕ) (rows : List Row) → entries (with_value key value rows) ≡ entries rows
+pub lists_law : ListsLaw
+lists_law = record { list_plain = λ lines. rows_plain (lines_in lines); entries_set = entries_set; value_map = value_map; map_twice = map_twice }
 
--- no line is a plain one
-abbrev pub NonePlain : List Row → Type 0
-NonePlain [] = Unit {0}
-NonePlain (r ∷ rs) = (is_plain r ≡ false) × NonePlain rs
+pub passes_law : PassesLaw
+passes_law = record { pass_then = pass_then; pass_at = pass_at; pass_kept = mapped_kept }
 
--- The entries are those of the list that was set; all values stay; of two lists the later stays.
-pub record ListsLaw : Type 0 where
-  pub list_plain : (lines : List ℕ) → NonePlain (given_list lines)
-  pub entries_set : (new rows : List Row) → entries (with_map new rows) ≡ entries new
-  pub value_map : (key : List ℕ) (new rows : List Row) → NonePlain new → last_value key (with_map new rows) ≡ last_value key rows
-  pub map_twice : (r : Row) (first new rows : List Row) → NonePlain (r ∷ first) → with_map new (with_map (r ∷ first) rows) ≡ with_map new rows
+none_anew : (k : Kind) (bs : List Block) → has k bs ≡ false → made_anew k [] bs ≡ bs
+none_anew k bs e = rw e refl
 
--- ---- passes
+pub anew_law : AnewLaw
+anew_law = record { anew_twice = anew_twice; added_none = λ k bs. refl; anew_none = none_anew }
 
--- every record is as it was after the change
-abbrev pub AllSame : (List Row → List Row) → List (List Row) → Type 0
-AllSame f [] = Unit {0}
-AllSame f (r ∷ rs) = (f r ≡ r) × AllSame f rs
+pub texts_law : TextsLaw
+texts_law = record {
+  given_one = given_one;
+  given_with_tails = given_with_tails;
+  added = λ k rs bs given is. text_added k rs bs is given.recs given.ended;
+  anew = λ k rs bs given is. text_anew k rs bs is given.recs given.ended;
+  dropped = text_dropped;
+  changed = λ k i f bs keeps is. record { blocks = header_on_record k i f bs keeps.opened is.blocks; lines = ends_on_record k i f bs keeps.ended is.lines };
+  mapped = λ k f bs keeps is. record { blocks = header_on_records k f bs keeps.opened is.blocks; lines = ends_on_records k f bs keeps.ended is.lines };
+  value_keeps = λ k key value is_key is_value. record { opened = value_opened k key value is_key is_value; ended = value_ended k key value is_key is_value };
+  list_keeps = λ lines whole all.
+      (let new = given_list lines in
+      let fit : Fit Group false new = list_fits (lines_in lines) whole in
+      record {
+        opened = λ j rows same is. opened_map j new rows (subst (λ (x : Kind). Fit x false new) (sym (same_kinds j Group same)) fit) is;
+        ended = λ rows more. map_ended new rows (subst AllEnded (sym (list_lines (lines_in lines))) all) more;
+      });
+}
 
--- a change of the records for which a test holds
-abbrev pub where_it : (List Row → Bool) → (List Row → List Row) → List Row → List Row
-where_it t f rows = if t rows then f rows else rows
+pub numbers_law : NumbersLaw
+numbers_law = record {
+  bare_numbered = bare_numbered;
+  bytes_bare = λ bs. ap joined (lines_bare bs);
+  records_bare = records_bare;
+  value_bare = value_bare;
+  entries_bare = entries_bare;
+  anew_same_lines = anew_same_lines;
+}
 
-abbrev pub NoneOf : (List Row → Bool) → List (List Row) → Type 0
-NoneOf t [] = Unit {0}
-NoneOf t (r ∷ rs) = (t r ≡ false) × NoneOf t rs
+text_again : (bs : List Block) → IsText bs → length (bytes_of bs) ≤ 2 ^ 26 → read_text (bytes_of bs) ≡ Ok (numbered 1 bs)
+text_again bs is small = rw (le-leb (length (bytes_of bs)) (2 ^ 26) small) (text_read bs is)
 
--- the test holds of the record with this place alone
-abbrev pub Only : (List Row → Bool) → ℕ → List (List Row) → Type 0
-Only t i [] = ⊥
-Only t zero (r ∷ rs) = (t r ≡ true) × NoneOf t rs
-Only t (suc i) (r ∷ rs) = (t r ≡ false) × Only t i rs
+pub read_again_law : ReadAgainLaw
+read_again_law = record { lines = text_read; text = text_again }
 
--- Two passes over the records of a kind are one; a change of one record is a pass with a test that holds of it alone; where
--- no record changes, the text doesn't.
-pub record PassesLaw : Type 0 where
-  pub pass_then : (k : Kind) (f g : List Row → List Row) (bs : List Block) → on_records k f (on_records k g bs) ≡ on_records k (λ (rows : List Row). f (g rows)) bs
-  pub pass_at : (k : Kind) (t : List Row → Bool) (i : ℕ) (f : List Row → List Row) (bs : List Block) → Only t i (records k bs) → on_record k i f bs ≡ on_records k (where_it t f) bs
-  pub pass_kept : (k : Kind) (f : List Row → List Row) (bs : List Block) → AllSame f (records k bs) → on_records k f bs ≡ bs
+pub added_law : AddedLaw
+added_law = record { added_then = added_then; added_joined = added_joined; changed_added = changed_added }
 
--- ---- what changes nothing
+pub numbering_law : NumberingLaw
+numbering_law = record {
+  value_forgets = value_forgets;
+  map_forgets = map_forgets;
+  list_bare = list_bare;
+  given_bare = given_bare;
+  bare_changed = bare_changed;
+  bare_all_changed = bare_all_changed;
+  bare_passed = bare_passed;
+  bare_added = bare_added;
+  bare_anew = bare_anew;
+  bare_dropped = bare_dropped;
+}
 
--- Making records anew twice is once; adding no record changes nothing, and making none anew where none stands neither.
-pub record AnewLaw : Type 0 where
-  pub anew_twice : (k : Kind) (r : Rec) (rs : List Rec) (bs : List Block) → AllOf k (r ∷ rs) → made_anew k (r ∷ rs) (made_anew k (r ∷ rs) bs) ≡ made_anew k (r ∷ rs) bs
-  pub added_none : (k : Kind) (bs : List Block) → add_records k [] bs ≡ bs
-  pub anew_none : (k : Kind) (bs : List Block) → has k bs ≡ false → made_anew k [] bs ≡ bs
-
--- ---- texts
-
-abbrev pub AreRecs : List Rec → Type 0
-AreRecs [] = Unit {0}
-AreRecs (r ∷ rs) = IsBlock (Record r) × AreRecs rs
-
-abbrev pub EndedRecords : List Rec → Type 0
-EndedRecords [] = Unit {0}
-EndedRecords (r ∷ rs) = AllEnded (block_lines (Record r)) × EndedRecords rs
-
--- whole records of the kind, each line ended
-pub record IsGiven (k : Kind) (rs : List Rec) : Type 0 where
-  pub recs : AreRecs rs
-  pub ended : EndedRecords rs
-  pub kind : AllOf k rs
-
--- a change of a record's lines that leaves them those of a record of the kind, and each ended
-pub record KeepsRows (k : Kind) (f : List Row → List Row) : Type 0 where
-  pub opened : (j : Kind) (rows : List Row) → same_kind j k ≡ true → Opened j rows → Opened j (f rows)
-  pub ended : (rows : List Row) → AllEnded (row_lines rows) → AllEnded (row_lines (f rows))
-
--- Each change of a text gives a text.
-pub record TextsLaw : Type 0 where
-  pub given_one : (k : Kind) (lines : List ℕ) → IsOneRecord k lines → IsGiven k (given_records lines)
-  pub given_with_tails : (k : Kind) (lines : List ℕ) → AreRecords k lines → IsGiven k (given_records lines)
-  pub added : (k : Kind) (rs : List Rec) (bs : List Block) → IsGiven k rs → IsText bs → IsText (add_records k rs bs)
-  pub anew : (k : Kind) (rs : List Rec) (bs : List Block) → IsGiven k rs → IsText bs → IsText (made_anew k rs bs)
-  pub dropped : (k : Kind) (i : ℕ) (bs : List Block) → IsText bs → IsText (dropped k i bs)
-  pub changed : (k : Kind) (i : ℕ) (f : List Row → List Row) (bs : List Block) → KeepsRows k f → IsText bs → IsText (on_record k i f bs)
-  pub mapped : (k : Kind) (f : List Row → List Row) (bs : List Block) → KeepsRows k f → IsText bs → IsText (on_records k f bs)
-  pub value_keeps : (k : Kind) (key value : List ℕ) → IsKey k key → IsValue value → KeepsRows k (with_value key value)
-  pub list_keeps : (lines : List ℕ) → is_whole_list (lines_in lines) ≡ true → AllEnded (lines_in lines) → KeepsRows Group (with_map (given_list lines))
-
--- ---- numbers
-
--- Numbers are of no line that is written, of no value and of no entry; records made anew in a text that is numbered
--- otherwise give the same lines.
-pub record NumbersLaw : Type 0 where
-  pub bare_numbered : (n : ℕ) (bs : List Block) → bare (numbered n bs) ≡ bare bs
-  pub bytes_bare : (bs : List Block) → bytes_of (bare bs) ≡ bytes_of bs
-  pub records_bare : (k : Kind) (bs : List Block) → records k (bare bs) ≡ map bare_rows (records k bs)
-  pub value_bare : (key : List ℕ) (rows : List Row) → last_value key (bare_rows rows) ≡ last_value key rows
-  pub entries_bare : (rows : List Row) → entries (bare_rows rows) ≡ bare_rows (entries rows)
-  pub anew_same_lines : (k : Kind) (rs : List Rec) (bs cs : List Block) → has k bs ≡ true → bare cs ≡ bare bs → lines_of (made_anew k rs cs) ≡ lines_of (made_anew k rs bs)
-
--- What is written of a text is read again as the same blocks, numbered anew from 1.
-abbrev pub ReadAgainLaw : Type 0
-ReadAgainLaw = (bs : List Block) → IsText bs → length (bytes_of bs) ≤ 2 ^ 26 → read_text (bytes_of bs) ≡ Ok (numbered 1 bs)
-
--- ---- given lines
-
--- a line `key=value`, as a call adds it
-abbrev pub value_row : List ℕ × List ℕ → Row
-value_row p = added_row Plain (value_body p.0 p.1)
-
--- a record of lines `key=value`, each ended by a line feed
-abbrev pub plain_record : Kind → List (List ℕ × List ℕ) → Rec
-plain_record k pairs = record { kind = k; rows = map value_row pairs; close = record { body = closing_of k; ending = 10 ∷ [] } }
-
-abbrev pub ArePairs : Kind → List (List ℕ × List ℕ) → Type 0
-ArePairs k [] = Unit {0}
-ArePairs k (p ∷ ps) = (IsKey k p.0 × IsValue p.1) × ArePairs k ps
-
--- The bytes of whole records are lines that may be given; they give these records, without numbers. A record of lines
--- `key=value` is a whole record.
-pub record GivenLaw : Type 0 where
-  pub one : (k : Kind) (r : Rec) → IsGiven k (r ∷ []) → IsOneRecord k (bytes_of (Record r ∷ []))
-  pub one_is : (k : Kind) (r : Rec) → IsGiven k (r ∷ []) → given_records (bytes_of (Record r ∷ [])) ≡ bare_rec r ∷ []
-  pub many : (k : Kind) (rs : List Rec) → IsGiven k rs → AreRecords k (bytes_of (with_tails rs))
-  pub many_are : (k : Kind) (rs : List Rec) → IsGiven k rs → given_records (bytes_of (with_tails rs)) ≡ map bare_rec rs
-  pub plain : (k : Kind) (p : List ℕ × List ℕ) (ps : List (List ℕ × List ℕ)) (rs : List Rec) → ArePairs k (p ∷ ps) → IsGiven k rs → IsGiven k (plain_record k (p ∷ ps) ∷ rs)
-  pub plain_bare : (k : Kind) (ps : List (List ℕ × List ℕ)) → bare_rec (plain_record k ps) ≡ plain_record k ps
+pub given_law : GivenLaw
+given_law = record { one = one_written; one_is = one_given; many = many_written; many_are = many_given; plain = plain_given; plain_bare = plain_is_bare }

@@ -1,25 +1,16 @@
+-- the format, what is read, written and changed, and what callers give
 pub mod Kinds
 pub mod Rows
 pub mod Blocks
+pub mod ChangeLists
 pub mod Classes
 pub mod Reading
 pub mod Written
 pub mod Given
-pub mod Parts
-pub mod Held
-pub mod Moves
-pub mod Places
-pub mod BookHeld
 pub mod Answers
 pub mod MapRows
 pub mod MapLent
-pub mod Grown
-pub mod Changes
-pub mod Removed
-pub mod Copied
-pub mod GivenHeld
-pub mod Inserted
-pub mod Spots
-pub mod Ready
-pub mod Anew
+-- what holds of the changes, whatever the text
 pub mod Laws
+-- how a book is held
+pub mod Holding

@@ -1,9 +1,6 @@
 -- The lines of remap lists, as they are handed out.
-use Rattle.std.specs.Prelude.{◌≤◌, ℕ, List, Option, map, length}
-use Rattle.std.specs.List.{All}
-use Rattle.sk_records.specs.declared.rows.Row as held
+use Rattle.std.specs.Prelude.{ℕ, List, Option, map}
 use Rattle.sk_records.specs.Rows.{Row, entries}
-use Rattle.sk_records.specs.Held.{RowWithin}
 
 -- a line's number, where it was read, and its body
 pub record EntryLine : Type 0 where
@@ -16,7 +13,3 @@ entry_line r = record { line = r.number; body = r.body }
 -- the entries of the remap lists, in order
 abbrev pub entry_lines : List Row → List EntryLine
 entry_lines rows = map entry_line (entries rows)
-
-pub record IsWalk (text : List ℕ) (rows : List held.Row) (at : ℕ) : Type 0 where
-  pub within : All (RowWithin text) rows
-  pub below : at ≤ length rows

@@ -1,21 +1,23 @@
 // New records.
 ghost use Rattle.std.specs.Prelude.{◌≡◌, ◌<◌, ◌∷◌, ◌++◌, [], List, length, IfOk, OnOk, OnErr, false, slice_set};
-ghost use Rattle.sk_records.specs.Blocks.{Loose, Record, ended_line, feed_line};
+ghost use Rattle.sk_records.specs.Blocks.{Loose, Record, AllOf, ended_line, feed_line};
 ghost use Rattle.sk_records.specs.Kinds.{kind_place, same_kind};
-ghost use Rattle.sk_records.specs.Held.{line_at, blocks_at, item_blocks, IsWithin, ItemWithin};
-ghost use Rattle.sk_records.specs.Grown.{IsGrown};
-ghost use Rattle.sk_records.specs.Ready.{close_span, with_close, IsReady, IsNew, IsPut, IsKept, IsAdded};
-ghost use Rattle.sk_records.specs.Given.{IsOneRecord};
+ghost use Rattle.sk_records.specs.Holding.Held.{line_at, blocks_at, item_blocks, IsWithin, ItemWithin};
+ghost use Rattle.sk_records.specs.Holding.Grown.{IsGrown};
+ghost use Rattle.sk_records.specs.Holding.Ready.{close_span, with_close, IsReady, IsNew, IsPut, IsKept, IsAdded, AreAdded};
+ghost use Rattle.sk_records.specs.Given.{recs_of, given_records, IsOneRecord, AreRecords};
 ghost use Rattle.sk_records.specs.declared.items.Item.TheVariants.{Lines};
-ghost use Rattle.sk_records.specs.Places.{holds, lists_of, list_of};
-ghost use Rattle.sk_records.specs.BookHeld.{book_blocks, IsHeld, IsBook};
+ghost use Rattle.sk_records.specs.Holding.Places.{holds, lists_of, list_of};
+ghost use Rattle.sk_records.specs.Holding.BookHeld.{book_blocks, IsHeld, IsBook};
 
-use crate::given::push_record;
+use crate::given::{push_given, push_record};
 use crate::items::{Item, Stretch};
 use crate::kinds::Kind;
-use crate::rows::Span;
+use crate::places::holds;
+use crate::rows::{LAST_PLACE, Span};
 use crate::spots::{Before, Ready, make_ready};
 use std::alloc::AllocError;
+use std::mem;
 
 /// A line with an end: where it has none, it is put behind the text with a line feed.
 pub(crate) fn push_ended(text: &mut Vec<u8>, line: Span) -> Result<Span, AllocError>
@@ -28,13 +30,17 @@ pub(crate) fn push_ended(text: &mut Vec<u8>, line: Span) -> Result<Span, AllocEr
         return Ok(line);
     }
     let start = text.len();
-    text.extend_from_within(line.start..line.body_end)?;
+    text.extend_from_within(line.start as usize..line.body_end as usize)?;
     let body_end = text.len();
     text.push(b'\n')?;
+    let end = text.len();
+    if end > LAST_PLACE {
+        return Err(AllocError);
+    }
     Ok(Span {
-        start,
-        body_end,
-        end: text.len(),
+        start: start as u32,
+        body_end: body_end as u32,
+        end: end as u32,
     })
 }
 
@@ -46,9 +52,13 @@ pub(crate) fn push_feed(text: &mut Vec<u8>) -> Result<Stretch, AllocError>
 {
     let start = text.len();
     text.push(b'\n')?;
+    let end = text.len();
+    if end > LAST_PLACE {
+        return Err(AllocError);
+    }
     Ok(Stretch {
-        start,
-        end: text.len(),
+        start: start as u32,
+        end: end as u32,
     })
 }
 
@@ -143,4 +153,51 @@ pub(crate) fn add_given(
     let tail = push_feed(text)?;
     let ready = make_ready(text, items, places, kind)?;
     put_record(text, header, items, places, kind, ready, new, tail)
+}
+
+// Puts a record, and a tail, where records of its kind go; nothing where no record of the kind is given.
+fn add_item(
+    text: &mut Vec<u8>,
+    header: &mut Span,
+    items: &mut Vec<Item>,
+    places: &mut Vec<Vec<usize>>,
+    kind: Kind,
+    item: Item,
+) -> Result<(), AllocError>
+    requires first { IsWithin text.old.items header.old }
+    requires held { IsHeld text.old.items items.old.items places.old.items }
+    requires within { ItemWithin text.old.items item }
+    requires of_kind { AllOf kind (recs_of (item_blocks text.old.items item)) }
+    ensures ok { OnOk result (AreAdded text.old.items text.new.items kind (recs_of (item_blocks text.old.items item)) header.old header.new items.old.items items.new.items places.new.items) }
+    ensures grown { IsGrown text.old.items text.new.items }
+{
+    if !holds(&item, kind) {
+        return Ok(());
+    }
+    let tail = push_feed(text)?;
+    let ready = make_ready(text, items, places, kind)?;
+    put_record(text, header, items, places, kind, ready, item, tail)
+}
+
+/// Puts whole records that a caller gives where records of their kind go. At an `Err` some of them may have been put.
+pub(crate) fn add_all(
+    text: &mut Vec<u8>,
+    header: &mut Span,
+    items: &mut Vec<Item>,
+    places: &mut Vec<Vec<usize>>,
+    kind: Kind,
+    lines: &[u8],
+) -> Result<(), AllocError>
+    requires first { IsWithin text.old.items header.old }
+    requires held { IsHeld text.old.items items.old.items places.old.items }
+    requires given { AreRecords kind lines.now }
+    ensures ok { OnOk result (AreAdded text.old.items text.new.items kind (given_records lines.now) header.old header.new items.old.items items.new.items places.new.items) }
+    ensures grown { IsGrown text.old.items text.new.items }
+{
+    let mut new = push_given(text, lines)?;
+    for i in 0..new.len() {
+        let item = mem::replace(&mut new[i], Item::Gone);
+        add_item(text, header, items, places, kind, item)?;
+    }
+    Ok(())
 }

@@ -1,24 +1,22 @@
 // Records of a kind that are made anew.
-ghost use Rattle.std.specs.Prelude.{◌≡◌, ◌<◌, ◌≤◌, ◌++◌, List, length, take, drop, IfOk, OnOk, OnErr, slice_index, true, false};
+ghost use Rattle.std.specs.Prelude.{◌≡◌, ◌<◌, ◌≤◌, ◌++◌, length, take, drop, false, IfOk, OnOk, OnErr};
 ghost use Rattle.std.specs.List.{All};
-ghost use Rattle.sk_records.specs.Blocks.{without};
-ghost use Rattle.sk_records.specs.Held.{blocks_at, IsWithin, ItemWithin};
-ghost use Rattle.sk_records.specs.Places.{places_from, all_places, lists_of};
+ghost use Rattle.sk_records.specs.Holding.Held.{IsWithin, ItemWithin};
+ghost use Rattle.sk_records.specs.Holding.Places.{places_from, lists_of};
 ghost use Rattle.sk_records.specs.Given.{AreRecords};
-ghost use Rattle.sk_records.specs.Grown.{IsGrown};
-ghost use Rattle.sk_records.specs.BookHeld.{IsHeld};
-ghost use Rattle.sk_records.specs.Ready.{IsKept};
-ghost use Rattle.sk_records.specs.Anew.{is_after, cut_after, IsLeft, IsPushed, IsSetAnew, IsAnew, IsMark, IsMarked};
+ghost use Rattle.sk_records.specs.Holding.Grown.{IsGrown};
+ghost use Rattle.sk_records.specs.Holding.BookHeld.{IsHeld};
+ghost use Rattle.sk_records.specs.Holding.Ready.{IsKept};
+ghost use Rattle.sk_records.specs.Holding.Anew.{is_after, cut_after, left_item, left_items, list_anew, lists_anew, IsSetAnew, IsAnew};
 
-use crate::adding::{push_feed, put_record};
-use crate::copying::{copy_item, copy_items};
 use crate::given::push_given;
-use crate::items::{Item, Record};
+use crate::inserting::put_items;
+use crate::items::Item;
 use crate::kinds::{Kind, RecId};
-use crate::places::{all_places, count, holds, place_of};
-use crate::removing::{is_gone, without_blank};
+use crate::making::change_all;
+use crate::places::{count, holds, place_of, push_places};
+use crate::removing::without_blank;
 use crate::rows::Span;
-use crate::spots::make_ready;
 use std::alloc::{AllocError, Global};
 
 // Whether a record of the kind went just before what follows an item.
@@ -44,79 +42,80 @@ fn cut_after(text: &[u8], item: &Item, after: bool) -> Option<Item>
     }
 }
 
-// What stays of an item.
-fn left_of(
-    alloc: Global,
-    text: &[u8],
-    item: &Item,
-    kind: Kind,
-    after: bool,
-) -> Result<Item, AllocError>
-    requires { ItemWithin text.now item.now }
-    ensures { IfOk result (IsLeft text.now kind after item.now) }
+// Leaves what stays of an item.
+fn leave(text: &[u8], item: &mut Item, kind: Kind, after: bool)
+    requires { ItemWithin text.now item.old }
+    ensures { item.new ≡ left_item text.now kind after item.old }
 {
     if holds(item, kind) {
-        return Ok(Item::Gone);
-    }
-    match cut_after(text, item, after) {
-        Some(rest) => Ok(rest),
-        None => copy_item(alloc, item),
+        *item = Item::Gone;
+    } else if let Some(rest) = cut_after(text, item, after) {
+        *item = rest;
     }
 }
 
-// Puts an item behind others, unless nothing stands there.
-fn push_some(out: &mut Vec<Item>, item: Item) -> Result<(), AllocError>
-    ensures { OnOk result (IsPushed out.old.items out.new.items item) }
+// The records of a kind go, and their tails.
+fn leave_all(text: &[u8], items: &mut [Item], kind: Kind)
+    requires { All (ItemWithin text.now) items.old }
+    ensures { items.new ≡ left_items text.now kind false items.old }
 {
-    if is_gone(&item) {
-        return Ok(());
-    }
-    out.push(item)?;
-    Ok(())
-}
-
-// Copies of items, without the records of a kind and their tails.
-fn copy_without(
-    alloc: Global,
-    text: &[u8],
-    items: &[Item],
-    kind: Kind,
-) -> Result<Vec<Item>, AllocError>
-    requires { All (ItemWithin text.now) items.now }
-    ensures blocks { IfOk result (λ out. blocks_at text.now out.items ≡ without kind false (blocks_at text.now items.now)) }
-    ensures within { IfOk result (λ out. All (ItemWithin text.now) out.items) }
-{
-    let mut out = Vec::new(alloc);
     let mut after = false;
-    for item in items {
-        let left = left_of(alloc, text, item, kind, after)?;
-        after = is_after(item, kind, after);
-        push_some(&mut out, left)?;
+    for i in 0..items.len() {
+        let next = is_after(&items[i], kind, after);
+        leave(text, &mut items[i], kind, after);
+        after = next;
     }
-    Ok(out)
 }
 
-// Copies of items with new ones at a place, and behind it without the records of a kind and their tails.
-fn replaced(
-    text: &[u8],
+// From a place on the records of a kind go, and their tails.
+fn leave_behind(text: &[u8], items: &mut Vec<Item>, from: usize, kind: Kind)
+    requires place { from ≤ length items.old.items }
+    requires within { All (ItemWithin text.now) items.old.items }
+    ensures { items.new.items ≡ take from items.old.items ++ left_items text.now kind false (drop from items.old.items) }
+{
+    leave_all(text, &mut items[from..], kind);
+}
+
+// The places of one kind where new items are put at a place and those of some kind go behind it.
+fn list_anew(
+    alloc: Global,
     items: &[Item],
     at: usize,
-    new: Vec<Item>,
+    new: &[Item],
     kind: Kind,
-) -> Result<Vec<Item>, AllocError>
+    own: Kind,
+) -> Result<Vec<usize>, AllocError>
     requires place { at ≤ length items.now }
-    requires within { All (ItemWithin text.now) items.now }
-    requires new { All (ItemWithin text.now) new.items }
-    ensures blocks { IfOk result (λ out. blocks_at text.now out.items ≡ blocks_at text.now (take at items.now) ++ (blocks_at text.now new.items ++ without kind false (blocks_at text.now (drop at items.now)))) }
-    ensures within { IfOk result (λ out. All (ItemWithin text.now) out.items) }
+    ensures { IfOk result (λ list. list.items ≡ list_anew kind at items.now new.now own) }
 {
-    let alloc = *new.allocator();
-    let mut new = new;
-    let mut back = copy_without(alloc, text, &items[at..], kind)?;
-    let mut out = copy_items(alloc, &items[..at])?;
-    out.append(&mut new)?;
-    out.append(&mut back)?;
-    Ok(out)
+    let mut list = Vec::new(alloc);
+    push_places(&mut list, &items[..at], own, 0)?;
+    push_places(&mut list, new, own, at)?;
+    if !own.is(kind) {
+        push_places(&mut list, &items[at..], own, at + new.len())?;
+    }
+    Ok(list)
+}
+
+// The places of every kind then.
+fn lists_anew(
+    alloc: Global,
+    items: &[Item],
+    at: usize,
+    new: &[Item],
+    kind: Kind,
+) -> Result<Vec<Vec<usize>>, AllocError>
+    requires place { at ≤ length items.now }
+    ensures { IfOk result (λ lists. lists_of lists.items ≡ lists_anew kind at items.now new.now) }
+{
+    let mut lists = Vec::new(alloc);
+    lists.push(list_anew(alloc, items, at, new, kind, Kind::Group)?)?;
+    lists.push(list_anew(alloc, items, at, new, kind, Kind::Param)?)?;
+    lists.push(list_anew(alloc, items, at, new, kind, Kind::Request)?)?;
+    lists.push(list_anew(alloc, items, at, new, kind, Kind::Entity)?)?;
+    lists.push(list_anew(alloc, items, at, new, kind, Kind::Constraint)?)?;
+    lists.push(list_anew(alloc, items, at, new, kind, Kind::Style)?)?;
+    Ok(lists)
 }
 
 // Makes the records of a kind anew where the first of them stands. At an `Err` the items are as they were.
@@ -137,72 +136,10 @@ fn set_standing(
 {
     let new = push_given(text, lines)?;
     let at = place_of(places, items, RecId { kind, place: 0 });
-    let out = replaced(text, items, at, new, kind)?;
-    let index = all_places(*out.allocator(), &out)?;
-    *items = out;
-    *places = index;
-    Ok(())
-}
-
-// A record of a kind with no lines.
-fn mark(alloc: Global, kind: Kind) -> Item
-    ensures { IsMark kind result }
-{
-    Item::Held(Record {
-        kind,
-        rows: Vec::new(alloc),
-        close: Span {
-            start: 0,
-            body_end: 0,
-            end: 0,
-        },
-    })
-}
-
-// Puts a record that only holds the place where records of its kind go.
-fn put_mark(
-    text: &mut Vec<u8>,
-    header: &mut Span,
-    items: &mut Vec<Item>,
-    places: &mut Vec<Vec<usize>>,
-    kind: Kind,
-) -> Result<(), AllocError>
-    requires first { IsWithin text.old.items header.old }
-    requires held { IsHeld text.old.items items.old.items places.old.items }
-    ensures ok { OnOk result (IsMarked text.old.items text.new.items kind header.old header.new items.old.items items.new.items places.new.items) }
-    ensures grown { IsGrown text.old.items text.new.items }
-{
-    let tail = push_feed(text)?;
-    let ready = make_ready(text, items, places, kind)?;
-    let new = mark(*items.allocator(), kind);
-    put_record(text, header, items, places, kind, ready, new, tail)
-}
-
-// Makes records of a kind anew where none stands: in a copy, where one was put first. At an `Err` the blocks are as they were.
-fn set_marked(
-    text: &mut Vec<u8>,
-    header: &mut Span,
-    items: &mut Vec<Item>,
-    places: &mut Vec<Vec<usize>>,
-    kind: Kind,
-    lines: &[u8],
-) -> Result<(), AllocError>
-    requires first { IsWithin text.old.items header.old }
-    requires held { IsHeld text.old.items items.old.items places.old.items }
-    requires none { length (places_from kind 0 items.old.items) ≡ 0 }
-    requires given { AreRecords kind lines.now }
-    requires some { 0 < length lines.now }
-    ensures ok { OnOk result (IsAnew text.old.items text.new.items kind lines.now header.old header.new items.old.items items.new.items places.new.items) }
-    ensures err { OnErr result (IsKept text.old.items text.new.items header.old header.new items.old.items items.new.items places.new.items) }
-{
-    let alloc = *items.allocator();
-    let mut marked = copy_items(alloc, items)?;
-    let mut index = all_places(alloc, &marked)?;
-    let mut line = *header;
-    put_mark(text, &mut line, &mut marked, &mut index, kind)?;
-    set_standing(text, &mut marked, &mut index, kind, lines)?;
-    *header = line;
-    *items = marked;
+    let index = lists_anew(*items.allocator(), items, at, &new, kind)?;
+    let behind = at + new.len();
+    put_items(items, at, new)?;
+    leave_behind(text, items, behind, kind);
     *places = index;
     Ok(())
 }
@@ -224,9 +161,7 @@ pub(crate) fn set_anew(
 {
     if count(places, items, kind) > 0 {
         set_standing(text, items, places, kind, lines)
-    } else if lines.is_empty() {
-        Ok(())
     } else {
-        set_marked(text, header, items, places, kind, lines)
+        change_all(text, header, items, places, kind, &[], &[], lines)
     }
 }

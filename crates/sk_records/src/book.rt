@@ -1,29 +1,34 @@
 // Books of records.
-ghost use Rattle.std.specs.Prelude.{◌≡◌, ◌⊎◌, ◌<◌, ◌++◌, List, ℕ, length, MatchResult, Ok, Err, OnOk, OnErr, IfOk};
+ghost use Rattle.std.specs.Prelude.{◌≡◌, ◌<◌, ◌++◌, List, ℕ, length, MatchResult, Ok, Err, OnOk, OnErr, IfOk};
 ghost use Rattle.std.specs.Option.{option_copied};
 ghost use Rattle.sk_text.specs.Lines.{lines_in};
 ghost use Rattle.sk_records.specs.Blocks.{records, on_record, dropped, add_records, made_anew};
-ghost use Rattle.sk_records.specs.Rows.{last_value, last_number, with_value, with_map};
+ghost use Rattle.std.specs.Prelude.{map, IsOk};
+ghost use Rattle.std.specs.Borrow.{Bor};
+ghost use Rattle.sk_records.specs.Rows.{last_value, last_number, last_place, with_value, with_map};
+ghost use Rattle.sk_records.specs.ChangeLists.{Change, all_changed, change_place};
 ghost use Rattle.sk_records.specs.Given.{IsKey, IsValue, AllEnded, is_whole_list, given_list, IsOneRecord, AreRecords, given_records};
 ghost use Rattle.std.specs.Prelude.{true};
 ghost use Rattle.sk_records.specs.declared.kinds.Kind.TheVariants.{Group, Entity};
 ghost use Rattle.sk_records.specs.Reading.{read_text};
-ghost use Rattle.sk_records.specs.Written.{bytes_of, IsText, numbered};
+ghost use Rattle.sk_records.specs.Written.{bytes_of, IsText};
 ghost use Rattle.sk_records.specs.Answers.{IsAnswer, rows_in};
 ghost use Rattle.sk_records.specs.MapRows.{entry_lines};
 
 use crate::adding::add_given;
 use crate::anew::set_anew;
+use crate::change_list::ChangeList;
 use crate::changes::{set_list_at, set_value_at};
 use crate::classes::is_header;
-use crate::copying::copy_items;
 use crate::faults::ReadFault;
 use crate::items::Item;
 use crate::kinds::{Kind, RecId};
+use crate::making::change_all;
 use crate::map_lines::{MapLines, map_lines};
+use crate::packing::{pack_items, pack_span};
 use crate::reading::read_lines;
 use crate::removing::remove_at;
-use crate::rows::{Row, Span};
+use crate::rows::{LAST_PLACE, Row, Span};
 use crate::writing::write_items;
 use crate::{lookup, places};
 use sk_text::lines;
@@ -51,7 +56,7 @@ impl Model for Book {
 
     ghost Value = { List Block };
 
-    ghost use Rattle.sk_records.specs.BookHeld.{book_blocks, IsBook};
+    ghost use Rattle.sk_records.specs.Holding.BookHeld.{book_blocks, IsBook};
 
     ghost view = { λ b. book_blocks b.text.items b.header b.items.items };
 
@@ -79,6 +84,28 @@ impl Book {
         })
     }
 
+    /// Reads a text that has no fault but, maybe, its size: such as what a book writes.
+    pub fn again(alloc: Global, text: Vec<u8>) -> Result<Book, AllocError>
+        requires { IsOk (read_lines (lines_in text.items)) }
+        ensures { IfOk result (λ book. read_lines (lines_in text.items) ≡ Ok book) }
+    {
+        if text.len() >= LAST_PLACE {
+            return Err(AllocError);
+        }
+        let Parts { header, items } = match parts_of(alloc, &text) {
+            Ok(parts) => parts,
+            // The text has no fault, so this is want of memory.
+            Err(_) => return Err(AllocError),
+        };
+        let places = places::all_places(alloc, &items)?;
+        Ok(Book {
+            text,
+            header,
+            items,
+            places,
+        })
+    }
+
     /// How many records of a kind the book has.
     pub fn count(&self, kind: Kind) -> usize
         ensures { result ≡ length (records kind self.now) }
@@ -93,6 +120,29 @@ impl Book {
     {
         let text = self.text.as_slice();
         lookup::last_value(text, record_rows(text, &self.items, &self.places, rec), key)
+    }
+
+    /// Finds the record's last lines with some keys, in one pass over its lines: for each key the line's place among those of the
+    /// record, from 0, and None where no line has it.
+    pub fn find(&self, rec: RecId, keys: &[&[u8]], found: &mut [Option<usize>])
+        requires exists { rec.place < length (records rec.kind self.now) }
+        requires room { length found.old ≡ length keys.now }
+        ensures { found.new ≡ map (λ (k : Bor (List ℕ)). last_place k.now (rows_in rec self.now)) keys.now }
+    {
+        let text = self.text.as_slice();
+        let rows = record_rows(text, &self.items, &self.places, rec);
+        lookup::last_places(text, rows, keys, found);
+    }
+
+    /// The value on the record's last line with this key, of which `find` told the place.
+    pub fn value_at(&self, rec: RecId, key: &[u8], line: Option<usize>) -> Option<&[u8]>
+        requires exists { rec.place < length (records rec.kind self.now) }
+        requires found { line ≡ last_place key.now (rows_in rec self.now) }
+        ensures { option_copied result ≡ last_value key.now (rows_in rec self.now) }
+    {
+        let text = self.text.as_slice();
+        let rows = record_rows(text, &self.items, &self.places, rec);
+        lookup::value_on(text, rows, key, line)
     }
 
     /// The number of the record's last line with this key, as it was read, from 1. None where no line has the key, and
@@ -169,6 +219,28 @@ impl Book {
         }
     }
 
+    /// Makes the changes of a list, one after the other, and then adds records of its kind in one list, as by `add_record`. At an
+    /// `Err` the book is as it was.
+    ///
+    /// The lines are whole records of the kind, each with an empty line (a line feed) behind it, each ended; there may be none.
+    pub fn change(&mut self, changes: &ChangeList, added: &[u8]) -> Result<(), AllocError>
+        requires exist { All (λ (c : Change). change_place c < length (records changes.now.kind self.old)) changes.now.list }
+        requires given { AreRecords changes.now.kind added.now }
+        ensures ok { OnOk result (self.new ≡ add_records changes.now.kind (given_records added.now) (all_changed changes.now.kind changes.now.list self.old)) }
+        ensures err { OnErr result (self.new ≡ self.old) }
+    {
+        change_all(
+            &mut self.text,
+            &mut self.header,
+            &mut self.items,
+            &mut self.places,
+            changes.kind,
+            &changes.bytes,
+            &changes.edits,
+            added,
+        )
+    }
+
     /// Takes a record away, and its tail: the empty line directly behind it, where there is one. It takes no memory.
     pub fn drop_record(&mut self, rec: RecId)
         requires exists { rec.place < length (records rec.kind self.old) }
@@ -199,31 +271,24 @@ impl Book {
         )
     }
 
-    /// A law, and nothing when it runs: the blocks of a book are those of a text.
+    /// Nothing when it runs: it tells that the blocks of a book are those of a text.
     pub fn law_text(&self)
         ensures { IsText self.now }
     {
         let _text = &self.text;
     }
 
-    /// A law, and nothing when it runs: what `write` appends is read again as the same blocks, numbered anew.
-    pub fn law_read_again(&self)
-        requires small { length (bytes_of self.now) ≤ 2 ^ 26 }
-        ensures { read_text (bytes_of self.now) ≡ Ok (numbered 1 self.now) }
-    {
-        self.law_text();
-    }
-
-    /// An equal book.
+    /// An equal book, which holds nothing of what changes left behind.
     pub fn copy(&self, alloc: Global) -> Result<Book, AllocError>
         ensures { IfOk result (λ book. book ≡ self.now) }
     {
-        let text = Vec::from_slice(alloc, &self.text)?;
-        let items = copy_items(alloc, &self.items)?;
+        let mut text = Vec::new(alloc);
+        let header = pack_span(&self.text, self.header, &mut text)?;
+        let items = pack_items(alloc, &self.text, &self.items, &mut text)?;
         let places = places::all_places(alloc, &items)?;
         Ok(Book {
             text,
-            header: self.header,
+            header,
             items,
             places,
         })
@@ -235,7 +300,7 @@ impl Book {
         ensures err { OnErr result (out.new.items ≡ out.old.items) }
     {
         let before = out.len();
-        let header = &self.text[self.header.start..self.header.end];
+        let header = &self.text[self.header.start as usize..self.header.end as usize];
         out.extend_from_slice(header)?;
         match write_items(&self.text, &self.items, out) {
             Ok(()) => Ok(()),
@@ -249,11 +314,11 @@ impl Book {
 
 // The functions below work on the fields.
 ghost use Rattle.std.specs.List.{All};
-ghost use Rattle.sk_records.specs.Held.{rows_at, blocks_at, RowWithin};
-ghost use Rattle.std.specs.Prelude.{◌≤◌, ◌^◌};
-ghost use Rattle.sk_records.specs.Held.{ItemWithin, IsWithin};
+ghost use Rattle.sk_records.specs.Holding.Held.{rows_at, blocks_at, RowWithin};
+ghost use Rattle.std.specs.Prelude.{◌≤◌, ◌+◌, ◌^◌};
+ghost use Rattle.sk_records.specs.Holding.Held.{ItemWithin, IsWithin};
 ghost use Rattle.sk_records.specs.Reading.{read_lines};
-ghost use Rattle.sk_records.specs.BookHeld.{IsHeld, IsParted, AreWithin};
+ghost use Rattle.sk_records.specs.Holding.BookHeld.{IsHeld, IsParted, AreWithin};
 
 // The lines of a record.
 fn record_rows<'b>(text: &[u8], items: &'b [Item], places: &[Vec<usize>], rec: RecId) -> &'b [Row]
@@ -277,7 +342,7 @@ struct Parts {
 }
 
 fn parts_of(alloc: Global, text: &[u8]) -> Result<Parts, ReadFault>
-    requires small { length text.now ≤ 2 ^ 26 }
+    requires small { length text.now + 1 < 2 ^ 32 }
     ensures read { IsParted text.now result (read_lines (lines_in text.now)) }
     ensures within { IfOk result (AreWithin text.now) }
 {
@@ -289,10 +354,11 @@ fn parts_of(alloc: Global, text: &[u8]) -> Result<Parts, ReadFault>
         return Err(ReadFault::BadHeader);
     }
     let body_end = first.at + first.body.len();
+    let end = body_end + first.end.len();
     let header = Span {
-        start: first.at,
-        body_end,
-        end: body_end + first.end.len(),
+        start: first.at as u32,
+        body_end: body_end as u32,
+        end: end as u32,
     };
     match read_lines(alloc, text, 0, rest, 2) {
         Ok(items) => Ok(Parts { header, items }),

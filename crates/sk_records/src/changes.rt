@@ -5,11 +5,11 @@ ghost use Rattle.sk_records.specs.declared.kinds.Kind.{Kind};
 ghost use Rattle.sk_records.specs.Rows.{with_value, with_map};
 ghost use Rattle.sk_records.specs.Given.{given_list};
 ghost use Rattle.sk_records.specs.Blocks.{with_rows};
-ghost use Rattle.sk_records.specs.Held.{rows_at, item_blocks, RowWithin, ItemWithin};
-ghost use Rattle.sk_records.specs.Places.{holds};
-ghost use Rattle.sk_records.specs.Grown.{IsGrown};
+ghost use Rattle.sk_records.specs.Holding.Held.{rows_at, item_blocks, RowWithin, ItemWithin};
+ghost use Rattle.sk_records.specs.Holding.Places.{holds};
+ghost use Rattle.sk_records.specs.Holding.Grown.{IsGrown};
 ghost use Rattle.sk_records.specs.Rows.{Row};
-ghost use Rattle.sk_records.specs.Changes.{ItemChange};
+ghost use Rattle.sk_records.specs.Holding.Changes.{ItemChange};
 
 use crate::growing::{push_added, push_changed};
 use crate::items::Item;
@@ -34,20 +34,12 @@ fn set_row_value(
     match last_place(text, rows, key) {
         Some(at) => {
             let row = rows[at];
-            let span = push_changed(text, key, value, row.span)?;
-            rows[at] = Row {
-                span,
-                role: row.role,
-                number: row.number,
-            };
+            let span = push_changed(text, key, value, row)?;
+            rows[at] = Row::of(span, row.role, row.number);
         }
         None => {
             let span = push_added(text, key, value)?;
-            rows.push(Row {
-                span,
-                role: Role::Plain,
-                number: None,
-            })?;
+            rows.push(Row::of(span, Role::Plain, 0))?;
         }
     }
     Ok(())

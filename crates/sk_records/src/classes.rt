@@ -1,7 +1,7 @@
 // What a line is.
 ghost use Rattle.std.specs.Prelude.{◌≡◌};
 ghost use Rattle.sk_records.specs.Classes.{class_of, closed_kind, value_kind, is_surface, is_value, starts, is_header, is_opening, is_shut, is_entry, after_run, after_part};
-ghost use Rattle.sk_records.specs.Parts.{part_test};
+ghost use Rattle.sk_records.specs.Holding.Parts.{part_test};
 ghost use Rattle.std.specs.Option.{option_copied};
 
 use crate::kinds::Kind;

@@ -1,26 +1,23 @@
 // Records that callers give.
 ghost use Rattle.std.specs.Prelude.{◌≡◌, List, ℕ, map, IfOk};
 ghost use Rattle.std.specs.List.{All};
-ghost use Rattle.sk_records.specs.Held.{ItemWithin};
-ghost use Rattle.sk_records.specs.Grown.{IsGrown};
-ghost use Rattle.sk_records.specs.GivenHeld.{bare_held, IsBareOf, AreBareOf, IsGivenAs, IsRecordOf};
+ghost use Rattle.sk_records.specs.Holding.Held.{ItemWithin};
+ghost use Rattle.sk_records.specs.Holding.Grown.{IsGrown};
+ghost use Rattle.sk_records.specs.Holding.GivenHeld.{bare_held, IsBareOf, AreBareOf, IsGivenAs, IsRecordOf};
 ghost use Rattle.sk_records.specs.Given.{IsOneRecord};
 
 use crate::items::Item;
 use crate::kinds::Kind;
 use crate::reading::read_lines;
-use crate::rows::Row;
+use crate::rows::{LAST_PLACE, Row};
 use sk_text::lines;
 use std::alloc::AllocError;
-
-// The most bytes that a call may be given: past it no line would have a number.
-const MOST: usize = 1 << 31;
 
 fn forget_rows(rows: &mut Vec<Row>)
     ensures { rows.new.items ≡ map bare_held rows.old.items }
 {
     for i in 0..rows.len() {
-        rows[i].number = None;
+        rows[i].number = 0;
     }
 }
 
@@ -47,11 +44,11 @@ pub(crate) fn push_given(text: &mut Vec<u8>, given: &[u8]) -> Result<Vec<Item>, 
     ensures within { IfOk result (λ items. All (ItemWithin text.new.items) items.items) }
     ensures grown { IsGrown text.old.items text.new.items }
 {
-    if given.len() > MOST {
-        return Err(AllocError);
-    }
     let base = text.len();
     text.extend_from_slice(given)?;
+    if text.len() >= LAST_PLACE {
+        return Err(AllocError);
+    }
     match read_lines(*text.allocator(), text, base, lines(given), 1) {
         Ok(items) => {
             let mut items = items;

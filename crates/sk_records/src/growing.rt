@@ -1,10 +1,10 @@
 // Lines that calls put behind the held text.
-ghost use Rattle.std.specs.Prelude.{◌≡◌, ◌≤◌, ◌++◌, ◌∷◌, [], List, length, IfOk, OnOk, vec_len};
+ghost use Rattle.std.specs.Prelude.{◌≡◌, ◌≤◌, ◌+◌, ◌++◌, ◌∷◌, [], List, length, IfOk, OnOk, vec_len};
 ghost use Rattle.sk_records.specs.Rows.{value_body};
-ghost use Rattle.sk_records.specs.Held.{bytes_at, line_at, IsWithin};
-ghost use Rattle.sk_records.specs.Grown.{IsGrown};
+ghost use Rattle.sk_records.specs.Holding.Held.{bytes_at, line_at, IsWithin, RowWithin};
+ghost use Rattle.sk_records.specs.Holding.Grown.{IsGrown};
 
-use crate::rows::Span;
+use crate::rows::{LAST_PLACE, Row, Span};
 use std::alloc::AllocError;
 
 // Puts `key=value` behind the text.
@@ -22,21 +22,25 @@ pub(crate) fn push_changed(
     text: &mut Vec<u8>,
     key: &[u8],
     value: &[u8],
-    old: Span,
+    old: Row,
 ) -> Result<Span, AllocError>
-    requires within { IsWithin text.old.items old }
-    ensures line { IfOk result (λ s. line_at text.new.items s ≡ record { body = value_body key.now value.now; ending = bytes_at text.old.items old.body_end old.end }) }
+    requires within { RowWithin text.old.items old }
+    ensures line { IfOk result (λ s. line_at text.new.items s ≡ record { body = value_body key.now value.now; ending = bytes_at text.old.items old.body_end (old.body_end + old.end_len) }) }
     ensures within { IfOk result (IsWithin text.new.items) }
     ensures grown { IsGrown text.old.items text.new.items }
 {
     let start = text.len();
     push_body(text, key, value)?;
     let body_end = text.len();
-    text.extend_from_within(old.body_end..old.end)?;
+    text.extend_from_within(old.body_end as usize..old.end())?;
+    let end = text.len();
+    if end > LAST_PLACE {
+        return Err(AllocError);
+    }
     Ok(Span {
-        start,
-        body_end,
-        end: text.len(),
+        start: start as u32,
+        body_end: body_end as u32,
+        end: end as u32,
     })
 }
 
@@ -50,9 +54,13 @@ pub(crate) fn push_added(text: &mut Vec<u8>, key: &[u8], value: &[u8]) -> Result
     push_body(text, key, value)?;
     let body_end = text.len();
     text.push(b'\n')?;
+    let end = text.len();
+    if end > LAST_PLACE {
+        return Err(AllocError);
+    }
     Ok(Span {
-        start,
-        body_end,
-        end: text.len(),
+        start: start as u32,
+        body_end: body_end as u32,
+        end: end as u32,
     })
 }

@@ -2,9 +2,9 @@
 ghost use Rattle.std.specs.Prelude.{true, IfOk, ◌≡◌, ◌≤◌, ◌<◌, ◌+◌, ◌^◌, ◌++◌, List, ℕ, length, take, drop, map, OnOk, OnErr, vec_len};
 ghost use Rattle.std.specs.List.{All};
 ghost use Rattle.sk_records.specs.Kinds.{kinds_to};
-ghost use Rattle.sk_records.specs.Places.{all_places, lists_of};
-ghost use Rattle.sk_records.specs.Inserted.{shifted, nearest, HasRoom, StandsAlike};
-ghost use Rattle.sk_records.specs.Removed.{is_gone};
+ghost use Rattle.sk_records.specs.Holding.Places.{all_places, lists_of};
+ghost use Rattle.sk_records.specs.Holding.Inserted.{shifted, nearest, HasRoom, StandsAlike};
+ghost use Rattle.sk_records.specs.Holding.Removed.{is_gone};
 
 use crate::items::Item;
 use crate::kinds::Kind;
@@ -28,6 +28,19 @@ fn shift_lists(places: &mut Vec<Vec<usize>>, at: usize, count: usize)
     for i in 0..places.len() {
         shift_list(&mut places[i], at, count);
     }
+}
+
+/// Puts items at a place; the lists of places stay. At an `Err` all is as it was.
+pub(crate) fn put_items(items: &mut Vec<Item>, at: usize, new: Vec<Item>) -> Result<(), AllocError>
+    requires { at ≤ length items.old.items }
+    ensures ok { OnOk result (items.new.items ≡ take at items.old.items ++ (new.items ++ drop at items.old.items)) }
+    ensures err { OnErr result (items.new.items ≡ items.old.items) }
+{
+    let mut new = new;
+    let count = new.len();
+    items.append(&mut new)?;
+    items[at..].rotate_right(count);
+    Ok(())
 }
 
 /// Puts items at a place. At an `Err` all is as it was.

@@ -3,7 +3,7 @@ ghost use Rattle.std.specs.Prelude.{◌≡◌, ◌≤◌, ◌++◌, ◌∷◌, [
 ghost use Rattle.std.specs.List.{All};
 ghost use Rattle.sk_text.specs.Lines.{TextLine, lines_in, line_bytes};
 ghost use Rattle.sk_records.specs.Blocks.{Block, Loose};
-ghost use Rattle.sk_records.specs.Held.{bytes_at, line_at, blocks_at, IsWithin, ItemWithin, IsJoined};
+ghost use Rattle.sk_records.specs.Holding.Held.{bytes_at, line_at, blocks_at, IsWithin, ItemWithin, IsJoined};
 
 use crate::kinds::Kind;
 use crate::rows::{Row, Span};
@@ -12,8 +12,8 @@ use std::alloc::AllocError;
 /// A stretch of the held text: whole lines that stand between records.
 #[derive(Clone, Copy)]
 pub(crate) struct Stretch {
-    pub(crate) start: usize,
-    pub(crate) end: usize,
+    pub(crate) start: u32,
+    pub(crate) end: u32,
 }
 
 /// A record: its lines, and apart the line that closes it.
@@ -36,15 +36,15 @@ pub(crate) enum Item {
 }
 
 // Where the last stretch begins, if it reaches up to a place and its last line has an end.
-fn joined_start(text: &[u8], items: &[Item], at: usize) -> Option<usize>
+fn joined_start(text: &[u8], items: &[Item], at: u32) -> Option<u32>
     ensures { IfSome result (IsJoined text.now items.now at) }
 {
     match items {
         [.., Item::Lines(stretch)] => {
             if stretch.start < at
                 && stretch.end == at
-                && at <= text.len()
-                && text[at - 1] == b'\n'
+                && at as usize <= text.len()
+                && text[at as usize - 1] == b'\n'
             {
                 Some(stretch.start)
             } else {

@@ -1,13 +1,13 @@
 // Remap lists among the lines of a record.
 ghost use Rattle.std.specs.Prelude.{◌≡◌, ◌≤◌, ◌++◌, List, ℕ, length, map, IfOk, OnOk, OnErr, vec_len};
 ghost use Rattle.std.specs.List.{All};
-ghost use Rattle.sk_records.specs.Changes.{is_plain_row, with_list};
+ghost use Rattle.sk_records.specs.Holding.Changes.{is_plain_row, with_list};
 ghost use Rattle.sk_records.specs.Given.{given_list, list_role};
-ghost use Rattle.sk_records.specs.Held.{rows_at, RowWithin};
-ghost use Rattle.sk_records.specs.Grown.{IsGrown};
+ghost use Rattle.sk_records.specs.Holding.Held.{rows_at, RowWithin};
+ghost use Rattle.sk_records.specs.Holding.Grown.{IsGrown};
 
 use crate::classes::{is_opening, is_shut};
-use crate::rows::{Role, Row, Span};
+use crate::rows::{LAST_PLACE, Role, Row, Span};
 use sk_text::lines;
 use std::alloc::{AllocError, Global};
 
@@ -30,20 +30,20 @@ pub(crate) fn push_list(text: &mut Vec<u8>, given: &[u8]) -> Result<Vec<Row>, Al
 {
     let base = text.len();
     text.extend_from_slice(given)?;
+    if text.len() > LAST_PLACE {
+        return Err(AllocError);
+    }
     let mut rows = Vec::new(*text.allocator());
     for line in lines(given) {
         let start = base + line.at;
         let body_end = start + line.body.len();
         let end = body_end + line.end.len();
-        rows.push(Row {
-            span: Span {
-                start,
-                body_end,
-                end,
-            },
-            role: list_role(line.body),
-            number: None,
-        })?;
+        let span = Span {
+            start: start as u32,
+            body_end: body_end as u32,
+            end: end as u32,
+        };
+        rows.push(Row::of(span, list_role(line.body), 0))?;
     }
     Ok(rows)
 }

@@ -1,20 +1,22 @@
 // What is read from the lines of one record.
-ghost use Rattle.std.specs.Prelude.{◌≡◌, List, length, IfNone, IfSome, MatchOption};
+ghost use Rattle.std.specs.Prelude.{◌≡◌, List, ℕ, Option, length, map, if◌then◌else◌};
+ghost use Rattle.std.specs.Borrow.{Bor};
 ghost use Rattle.std.specs.Option.{option_copied};
 ghost use Rattle.std.specs.List.{All};
 ghost use Rattle.sk_records.specs.Rows.{last_value, last_number, last_place, value_at};
-ghost use Rattle.sk_records.specs.Held.{bytes_at, rows_at, IsWithin, RowWithin};
+ghost use Rattle.sk_records.specs.Holding.Found.{key_at, noted};
+ghost use Rattle.sk_records.specs.Holding.Held.{bytes_at, rows_at, RowWithin};
 
 use crate::rows::{Role, Row};
 use sk_text::split_key;
 
 /// The value that a line has under a key, lent from the text.
 pub(crate) fn value_in<'t>(text: &'t [u8], row: Row, key: &[u8]) -> Option<&'t [u8]>
-    requires { IsWithin text.now row.span }
-    ensures { option_copied result ≡ value_at key.now row.role (bytes_at text.now row.span.start row.span.body_end) }
+    requires { RowWithin text.now row }
+    ensures { option_copied result ≡ value_at key.now row.role (bytes_at text.now row.start row.body_end) }
 {
     match row.role {
-        Role::Plain => match split_key(&text[row.span.start..row.span.body_end]) {
+        Role::Plain => match split_key(row.body(text)) {
             Some((before, after)) if before == key => Some(after),
             _ => None,
         },
@@ -44,7 +46,7 @@ pub(crate) fn last_number(text: &[u8], rows: &[Row], key: &[u8]) -> Option<usize
     let mut found = None;
     for row in rows {
         if value_in(text, *row, key).is_some() {
-            found = row.number;
+            found = row.read_number();
         }
     }
     found
@@ -62,4 +64,77 @@ pub(crate) fn last_place(text: &[u8], rows: &[Row], key: &[u8]) -> Option<usize>
         }
     }
     found
+}
+
+// The key of a line, lent from the text.
+fn key_in<'t>(text: &'t [u8], row: Row) -> Option<&'t [u8]>
+    requires { RowWithin text.now row }
+    ensures { option_copied result ≡ key_at row.role (bytes_at text.now row.start row.body_end) }
+{
+    match row.role {
+        Role::Plain => match split_key(row.body(text)) {
+            Some((before, _)) => Some(before),
+            None => None,
+        },
+        _ => None,
+    }
+}
+
+fn clear(found: &mut [Option<usize>])
+    ensures { found.new ≡ map (λ (o : Option ℕ). None) found.old }
+{
+    for i in 0..found.len() {
+        found[i] = None;
+    }
+}
+
+// A place, or what was found before.
+fn place_or(here: bool, at: usize, before: Option<usize>) -> Option<usize>
+    ensures { result ≡ (if here then Some at else before) }
+{
+    if here { Some(at) } else { before }
+}
+
+// Where a line has one of some keys, its place is noted.
+fn note(key: &[u8], at: usize, keys: &[&[u8]], found: &mut [Option<usize>])
+    requires { length found.old ≡ length keys.now }
+    ensures { found.new ≡ noted key.now at keys.now found.old }
+{
+    for (i, wanted) in keys.iter().enumerate() {
+        found[i] = place_or(key == *wanted, at, found[i]);
+    }
+}
+
+/// The places of the last lines with some keys, each key's in its place: one pass over the lines.
+pub(crate) fn last_places(text: &[u8], rows: &[Row], keys: &[&[u8]], found: &mut [Option<usize>])
+    requires within { All (RowWithin text.now) rows.now }
+    requires room { length found.old ≡ length keys.now }
+    ensures { found.new ≡ map (λ (k : Bor (List ℕ)). last_place k.now (rows_at text.now rows.now)) keys.now }
+{
+    clear(found);
+    for (i, row) in rows.iter().enumerate() {
+        if let Some(key) = key_in(text, *row) {
+            note(key, i, keys, found);
+        }
+    }
+}
+
+/// The value of a key, of whose last line the place is known.
+pub(crate) fn value_on<'t>(
+    text: &'t [u8],
+    rows: &[Row],
+    key: &[u8],
+    line: Option<usize>,
+) -> Option<&'t [u8]>
+    requires within { All (RowWithin text.now) rows.now }
+    requires found { line ≡ last_place key.now (rows_at text.now rows.now) }
+    ensures { option_copied result ≡ last_value key.now (rows_at text.now rows.now) }
+{
+    match line {
+        Some(at) => {
+            let row = rows[at];
+            value_in(text, row, key)
+        }
+        None => None,
+    }
 }

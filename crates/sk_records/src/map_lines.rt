@@ -3,7 +3,7 @@ ghost use Rattle.std.specs.Prelude.{◌≡◌, ◌≤◌, ◌∷◌, [], List, l
 ghost use Rattle.std.specs.List.{All};
 ghost use Rattle.sk_records.specs.Rows.{entries};
 ghost use Rattle.sk_records.specs.MapRows.{entry_lines};
-ghost use Rattle.sk_records.specs.Held.{rows_at, row_at, RowWithin};
+ghost use Rattle.sk_records.specs.Holding.Held.{rows_at, row_at, RowWithin};
 
 use crate::rows::{Role, Row};
 use std::marker::Model;
@@ -25,8 +25,9 @@ pub struct MapLines<'a> {
 
 impl<'a> Model for MapLines<'a> {
     ghost use Rattle.std.specs.Prelude.{List, drop};
-    ghost use Rattle.sk_records.specs.MapRows.{EntryLine, entry_lines, IsWalk};
-    ghost use Rattle.sk_records.specs.Held.{rows_at};
+    ghost use Rattle.sk_records.specs.MapRows.{EntryLine, entry_lines};
+    ghost use Rattle.sk_records.specs.Holding.Walk.{IsWalk};
+    ghost use Rattle.sk_records.specs.Holding.Held.{rows_at};
 
     ghost Value = { List EntryLine };
 
@@ -49,8 +50,8 @@ impl<'a> Iterator for MapLines<'a> {
         let (count, row) = next_entry(self.text, &self.rows[self.at..])?;
         self.at += count;
         Some(MapLine {
-            line: row.number,
-            body: &self.text[row.span.start..row.span.body_end],
+            line: row.read_number(),
+            body: row.body(self.text),
         })
     }
 }

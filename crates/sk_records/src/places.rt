@@ -1,7 +1,7 @@
 // Where the records of each kind stand in the list of items.
-ghost use Rattle.std.specs.Prelude.{◌≡◌, ◌<◌, List, length, IfOk, slice_index, OnOk};
+ghost use Rattle.std.specs.Prelude.{◌≡◌, ◌<◌, ◌+◌, ◌^◌, ◌++◌, List, length, IfOk, slice_index, OnOk};
 ghost use Rattle.std.specs.Prelude.{slice_set, remove};
-ghost use Rattle.sk_records.specs.Places.{places_from, all_places, lists_of, list_of, holds};
+ghost use Rattle.sk_records.specs.Holding.Places.{places_from, all_places, lists_of, list_of, holds};
 ghost use Rattle.sk_records.specs.Kinds.{kind_place};
 
 use crate::items::Item;
@@ -18,16 +18,30 @@ pub(crate) fn holds(item: &Item, kind: Kind) -> bool
     }
 }
 
+/// Puts the places of the records of a kind behind others, counted from a base. At an `Err` some may have been put.
+pub(crate) fn push_places(
+    places: &mut Vec<usize>,
+    items: &[Item],
+    kind: Kind,
+    base: usize,
+) -> Result<(), AllocError>
+    requires { base + length items.now < 2 ^ 64 }
+    ensures { OnOk result (places.new.items ≡ places.old.items ++ places_from kind base items.now) }
+{
+    for (i, item) in items.iter().enumerate() {
+        if holds(item, kind) {
+            places.push(base + i)?;
+        }
+    }
+    Ok(())
+}
+
 // The places of the records of a kind.
 fn places_of(alloc: Global, items: &[Item], kind: Kind) -> Result<Vec<usize>, AllocError>
     ensures { IfOk result (λ places. places.items ≡ places_from kind 0 items.now) }
 {
     let mut places = Vec::new(alloc);
-    for (i, item) in items.iter().enumerate() {
-        if holds(item, kind) {
-            places.push(i)?;
-        }
-    }
+    push_places(&mut places, items, kind, 0)?;
     Ok(places)
 }
 

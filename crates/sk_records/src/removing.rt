@@ -1,18 +1,19 @@
 // Items that go.
 ghost use Rattle.std.specs.Prelude.{◌≡◌, ◌≤◌, ◌<◌, ◌+◌, ◌++◌, ◌∷◌, List, length, take, drop};
 ghost use Rattle.std.specs.List.{All};
-ghost use Rattle.sk_records.specs.Held.{bytes_at, StretchWithin, ItemWithin};
+ghost use Rattle.sk_records.specs.Holding.Held.{bytes_at, StretchWithin, ItemWithin};
 ghost use Rattle.sk_records.specs.declared.items.Item.TheVariants.{Gone};
-ghost use Rattle.sk_records.specs.Removed.{blank_len, shrunk, is_gone, shrink_first};
+ghost use Rattle.sk_records.specs.Holding.Removed.{blank_len, shrunk, is_gone, shrink_first};
 
 use crate::items::{Item, Stretch};
 
 /// The length of the empty line at the front of a stretch, or 0 where its first line isn't empty.
-pub(crate) fn blank_len(text: &[u8], stretch: Stretch) -> usize
+pub(crate) fn blank_len(text: &[u8], stretch: Stretch) -> u32
     requires { StretchWithin text.now stretch }
-    ensures { result ≡ blank_len (bytes_at text.now stretch.start stretch.end) }
+    ensures blank { result ≡ blank_len (bytes_at text.now stretch.start stretch.end) }
+    ensures within { stretch.start + result ≤ stretch.end }
 {
-    match &text[stretch.start..stretch.end] {
+    match &text[stretch.start as usize..stretch.end as usize] {
         [b'\n', ..] => 1,
         [b'\r', b'\n', ..] => 2,
         _ => 0,
@@ -27,15 +28,14 @@ pub(crate) fn without_blank(text: &[u8], item: &Item) -> Option<Item>
     match item {
         Item::Lines(stretch) => {
             let blank = blank_len(text, *stretch);
+            let end = stretch.end;
+            let start = stretch.start + blank;
             if blank == 0 {
                 None
-            } else if stretch.start + blank == stretch.end {
+            } else if start == end {
                 Some(Item::Gone)
             } else {
-                Some(Item::Lines(Stretch {
-                    start: stretch.start + blank,
-                    end: stretch.end,
-                }))
+                Some(Item::Lines(Stretch { start, end }))
             }
         }
         _ => None,

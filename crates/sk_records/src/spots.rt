@@ -4,13 +4,13 @@ ghost use Rattle.std.specs.List.{All};
 ghost use Rattle.sk_records.specs.declared.items.Item.{Item};
 ghost use Rattle.sk_records.specs.declared.items.Item.TheVariants.{Held, Lines};
 ghost use Rattle.sk_records.specs.declared.items.Record.{Record};
-ghost use Rattle.sk_records.specs.Held.{blocks_at, ItemWithin};
+ghost use Rattle.sk_records.specs.Holding.Held.{blocks_at, ItemWithin};
 ghost use Rattle.std.specs.Prelude.{if◌then◌else◌};
 ghost use Rattle.sk_records.specs.declared.spots.Before.TheVariants.{Tail};
 ghost use Rattle.sk_records.specs.declared.spots.Before.TheVariants as before;
-ghost use Rattle.sk_records.specs.Ready.{IsReady};
-ghost use Rattle.sk_records.specs.Places.{all_places, lists_of};
-ghost use Rattle.sk_records.specs.Spots.{gone_len, front_of, IsSpot};
+ghost use Rattle.sk_records.specs.Holding.Ready.{IsReady};
+ghost use Rattle.sk_records.specs.Holding.Places.{all_places, lists_of};
+ghost use Rattle.sk_records.specs.Holding.Spots.{gone_len, front_of, IsSpot};
 
 use crate::inserting::{insert_at, make_room, nearest};
 use crate::items::{Item, Stretch};
@@ -54,15 +54,15 @@ fn front_of(text: &[u8], item: &Item) -> Front
     match item {
         Item::Lines(stretch) => {
             let blank = blank_len(text, *stretch);
+            let whole = stretch.end;
+            let start = stretch.start;
+            let end = start + blank;
             if blank == 0 {
                 Front::Other
-            } else if stretch.start + blank == stretch.end {
+            } else if end == whole {
                 Front::Blank
             } else {
-                Front::BlankAndMore(Stretch {
-                    start: stretch.start,
-                    end: stretch.start + blank,
-                })
+                Front::BlankAndMore(Stretch { start, end })
             }
         }
         _ => Front::Other,

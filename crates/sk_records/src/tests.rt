@@ -1,7 +1,8 @@
 // Books of small texts: what is read, looked up, changed and written.
-ghost use Rattle.std.specs.Prelude.{◌≡◌, OnOk};
+ghost use Rattle.std.specs.Prelude.{◌≡◌, IfOk};
+ghost use Rattle.sk_records.specs.Written.{bytes_of};
 
-use crate::{Book, Kind, ReadFault, RecId};
+use crate::{Book, ChangeList, Kind, ReadFault, RecId};
 use std::alloc::{AllocError, Global};
 use std::test::Fail;
 
@@ -148,50 +149,6 @@ fn a_text_that_is_cut_has_the_fault_of_what_is_open(rt: HostRuntime) -> Result<(
     Ok(())
 }
 
-#[test]
-fn a_line_that_is_cut_is_bad_or_a_shorter_value(rt: HostRuntime) -> Result<(), Fail> {
-    let alloc = rt.alloc();
-    let mut before = Vec::new(alloc);
-    let mut number = 0u32;
-    for line in MODEL {
-        number = number.wrapping_add(1);
-        let first = match number {
-            4..=9 => 4,
-            11..=13 => 11,
-            15..=17 => 15,
-            _ => 19,
-        };
-        for size in 1..line.len() {
-            let cut = &line[..size];
-            let want = if number == 1 {
-                ReadFault::BadHeader
-            } else if cut.contains(&b'=') {
-                ReadFault::OpenRecord(first)
-            } else {
-                ReadFault::BadLine(number)
-            };
-            let mut text = Vec::from_slice(alloc, &before)?;
-            text.extend_from_slice(cut)?;
-            assert!(rt;
-                fault_of(alloc, &text)? == Some(want),
-                "line {number}, {size} bytes"
-            );
-        }
-        before.extend_from_slice(line)?;
-        before.push(b'\n')?;
-    }
-    Ok(())
-}
-
-#[test]
-fn a_text_past_the_limit_is_too_large(rt: HostRuntime) -> Result<(), Fail> {
-    let alloc = rt.alloc();
-    let mut text = whole(alloc)?;
-    text.resize((1 << 26) + 1, b'\n')?;
-    assert!(rt; matches!(Book::read(alloc, text), Err(ReadFault::TooLarge)));
-    Ok(())
-}
-
 // The book of the whole text; its reading is tried above.
 fn model(alloc: Global) -> Result<Book, AllocError> {
     match Book::read(alloc, whole(alloc)?) {
@@ -201,7 +158,9 @@ fn model(alloc: Global) -> Result<Book, AllocError> {
 }
 
 // The bytes of a book.
-fn bytes(alloc: Global, book: &Book) -> Result<Vec<u8>, AllocError> {
+fn bytes(alloc: Global, book: &Book) -> Result<Vec<u8>, AllocError>
+    ensures { IfOk result (λ out. out.items ≡ bytes_of book.now) }
+{
     let mut out = Vec::new(alloc);
     book.write(alloc, &mut out)?;
     Ok(out)
@@ -242,45 +201,10 @@ fn values_are_those_of_the_last_line(rt: HostRuntime) -> Result<(), Fail> {
     assert_eq!(rt; book.count(Kind::Constraint), 1);
     assert!(rt; book.value(constraint, b"Constraint.valA") == Some(b"5.5".as_slice()));
     assert!(rt; book.line_of(constraint, b"Constraint.valA") == Some(21));
-    assert!(rt; book.value(constraint, b"Constraint.valB").is_none());
-    Ok(())
-}
-
-#[test]
-fn a_change_changes_its_own_lines(rt: HostRuntime) -> Result<(), Fail> {
-    let alloc = rt.alloc();
-    let mut book = model(alloc)?;
-    set_distance(&mut book)?;
-    let want = text_of(alloc, 22, b"\n", 21, b"Constraint.valA=6")?;
-    assert!(rt; bytes(alloc, &book)? == want, "a value");
-    let copied = book.copy(alloc)?;
-    set_remap(&mut book)?;
-    assert!(rt; bytes(alloc, &copied)? == want, "a copy");
-    assert_eq!(rt;
-        bytes(alloc, &book)?.len(),
-        want.len(),
-        "a list of one entry"
-    );
-    assert!(rt; bytes(alloc, &book)? != want, "a list");
-    Ok(())
-}
-
-#[test]
-fn a_record_goes_with_its_tail(rt: HostRuntime) -> Result<(), Fail> {
-    let alloc = rt.alloc();
-    let mut book = model(alloc)?;
-    let request = RecId {
-        kind: Kind::Request,
-        place: 0,
-    };
-    assert_eq!(rt; book.count(Kind::Request), 1);
-    book.drop_record(request);
-    let mut want = text_of(alloc, 14, b"\n", 0, b"")?;
-    for line in MODEL.iter().skip(18) {
-        want.extend_from_slice(line)?;
-        want.extend_from_slice(b"\n")?;
-    }
-    assert!(rt; bytes(alloc, &book)? == want);
+    let keys: [&[u8]; 2] = [b"Constraint.valB", b"Constraint.valA"];
+    let mut found = [Some(7), None];
+    book.find(constraint, &keys, &mut found);
+    assert!(rt; found == [None, Some(2)]);
     Ok(())
 }
 
@@ -307,6 +231,35 @@ fn set_entity(book: &mut Book) -> Result<(), AllocError> {
     book.set_entities(b"Entity.h.v=00000009\nAddEntity\n\n")
 }
 
+// Sets the distance of the first constraint twice, where there is one, and adds constraint 9, all at once.
+fn change_constraints(alloc: Global, book: &mut Book) -> Result<(), AllocError> {
+    let mut changes = ChangeList::new(alloc, Kind::Constraint);
+    if book.count(Kind::Constraint) > 0 {
+        changes.set_value(0, b"Constraint.valA", b"7")?;
+        changes.set_value(0, b"Constraint.valA", b"6")?;
+        book.change(&changes, b"Constraint.h.v=00000009\nAddConstraint\n\n")?;
+    }
+    Ok(())
+}
+
+// Sets the remap list of the first group at once, where there is one.
+fn change_groups(alloc: Global, book: &mut Book) -> Result<(), AllocError> {
+    let mut changes = ChangeList::new(alloc, Kind::Group);
+    if book.count(Kind::Group) > 0 {
+        changes.set_map(0, b"Group.remap={\n    9 00090000 1\n}\n")?;
+        book.change(&changes, b"")?;
+    }
+    Ok(())
+}
+
+// Copies the book, and reads again what is written of the copy.
+fn read_again(alloc: Global, book: &mut Book) -> Result<(), AllocError> {
+    let copied = book.copy(alloc)?;
+    copied.law_text();
+    *book = Book::again(alloc, bytes(alloc, &copied)?)?;
+    Ok(())
+}
+
 #[derive(Clone, Copy)]
 enum Change {
     AddRequest,
@@ -314,9 +267,12 @@ enum Change {
     SetEntity,
     SetRemap,
     SetDistance,
+    ChangeConstraints,
+    ChangeGroups,
+    ReadAgain,
 }
 
-fn apply(book: &mut Book, change: Change) -> Result<(), AllocError> {
+fn apply(alloc: Global, book: &mut Book, change: Change) -> Result<(), AllocError> {
     match change {
         Change::AddRequest => add_request(book),
         Change::DropRequest => {
@@ -326,6 +282,9 @@ fn apply(book: &mut Book, change: Change) -> Result<(), AllocError> {
         Change::SetEntity => set_entity(book),
         Change::SetRemap => set_remap(book),
         Change::SetDistance => set_distance(book),
+        Change::ChangeConstraints => change_constraints(alloc, book),
+        Change::ChangeGroups => change_groups(alloc, book),
+        Change::ReadAgain => read_again(alloc, book),
     }
 }
 
@@ -369,7 +328,7 @@ fn changed(alloc: Global, parts: &[&[u8]], changes: &[Change]) -> Result<Vec<u8>
         Err(_) => return Err(AllocError),
     };
     for change in changes {
-        apply(&mut book, *change)?;
+        apply(alloc, &mut book, *change)?;
     }
     bytes(alloc, &book)
 }
@@ -382,7 +341,7 @@ type Case = (
     &'static [&'static [u8]],
 );
 
-const CASES: [Case; 10] = [
+const CASES: [Case; 12] = [
     (
         "added where the last went before two empty lines",
         &[HEAD, REQUEST, REQUEST, BLANK, BLANK, STYLE],
@@ -438,6 +397,23 @@ const CASES: [Case; 10] = [
         &[HEAD, LISTS_HEAD, LISTS, STYLE],
         &[Change::SetRemap],
         &[HEAD, LISTS_HEAD, ONE_LIST, STYLE],
+    ),
+    (
+        "two remap lists, at once",
+        &[HEAD, LISTS_HEAD, LISTS, STYLE],
+        &[Change::ChangeGroups, Change::ReadAgain],
+        &[HEAD, LISTS_HEAD, ONE_LIST, STYLE],
+    ),
+    (
+        "values and a record at once, behind a line without an end",
+        &[HEAD, b"Constraint.valA=5\nAddConstraint"],
+        &[Change::ChangeConstraints, Change::ReadAgain],
+        &[
+            HEAD,
+            b"Constraint.valA=6\nAddConstraint\n",
+            b"Constraint.h.v=00000009\nAddConstraint\n",
+            BLANK,
+        ],
     ),
     (
         "carriage returns",

@@ -4,7 +4,7 @@ ghost use Rattle.std.specs.List.{All};
 ghost use Rattle.sk_text.specs.Lines.{joined};
 ghost use Rattle.sk_records.specs.Reading.{row_lines};
 ghost use Rattle.sk_records.specs.Written.{bytes_of};
-ghost use Rattle.sk_records.specs.Held.{bytes_at, rows_at, item_blocks, blocks_at, RowWithin, ItemWithin};
+ghost use Rattle.sk_records.specs.Holding.Held.{bytes_at, rows_at, item_blocks, blocks_at, RowWithin, ItemWithin};
 
 use crate::items::Item;
 use crate::rows::Row;
@@ -17,7 +17,7 @@ fn write_rows(text: &[u8], rows: &[Row], out: &mut Vec<u8>) -> Result<(), AllocE
     ensures kept { take (length out.old.items) out.new.items ≡ out.old.items }
 {
     for row in rows {
-        out.extend_from_slice(&text[row.span.start..row.span.end])?;
+        out.extend_from_slice(&text[row.start as usize..row.end()])?;
     }
     Ok(())
 }
@@ -30,10 +30,12 @@ fn write_item(text: &[u8], item: &Item, out: &mut Vec<u8>) -> Result<(), AllocEr
 {
     match item {
         Item::Gone => {}
-        Item::Lines(stretch) => out.extend_from_slice(&text[stretch.start..stretch.end])?,
+        Item::Lines(stretch) => out.extend_from_slice(
+            &text[stretch.start as usize..stretch.end as usize],
+        )?,
         Item::Held(record) => {
             write_rows(text, &record.rows, out)?;
-            out.extend_from_slice(&text[record.close.start..record.close.end])?;
+            out.extend_from_slice(&text[record.close.start as usize..record.close.end as usize])?;
         }
     }
     Ok(())

@@ -1,3 +1,4 @@
 pub mod Lines
 pub mod Lent
 pub mod Keys
+pub mod LineLaws

@@ -53,10 +53,11 @@ placed_from at (l ∷ ls) = record { at = at; line = cut l } ∷ placed_from (at
 abbrev pub lines_of : List ℕ → List PlacedLine
 lines_of text = placed_from 0 (whole_lines text)
 
--- the line stands in the text where it says
+-- the line stands in the text where it says, and its end has at most two bytes
 pub record IsPart (text : List ℕ) (p : PlacedLine) : Type 0 where
   pub within : p.at + length (line_bytes p.line) ≤ length text
   pub bytes : take (length (line_bytes p.line)) (drop p.at text) ≡ line_bytes p.line
+  pub short : length p.line.ending ≤ 2
 
 abbrev pub is_empty : List ℕ → Bool
 is_empty [] = true

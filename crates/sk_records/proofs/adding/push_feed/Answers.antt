@@ -10,4 +10,4 @@ unfolding lines.end_len
 returns-clause-feed c =
     let old = c.args.text.now.items in
     let new = c.push.new.self.items in
-    ap (λ (b : List ℕ). map Loose (lines_in b)) (bytes_put old (10 ∷ []) new c.len-start.result c.len.result c.in_ok-push.ensures.items (omega arith) (omega (arith, ap length c.in_ok-push.ensures.items, length-append old (10 ∷ []))))
+    ap (λ (b : List ℕ). map Loose (lines_in b)) (bytes_put old (10 ∷ []) new c.len-start.result c.len-end.result c.in_ok-push.ensures.items (omega arith) (omega (arith, ap length c.in_ok-push.ensures.items, length-append old (10 ∷ []))))

@@ -3,8 +3,8 @@ use Rattle.sk_records.proofs.RoomMade.{on_err_any}
 use Rattle.sk_records.proofs.Growth.{grown_none}
 use Rattle.sk_records.specs.declared.rows.Span.{Span}
 use Rattle.sk_records.specs.Blocks.{ended_line}
-use Rattle.sk_records.specs.Held.{line_at}
-use Rattle.sk_records.specs.Ready.{close_span}
+use Rattle.sk_records.specs.Holding.Held.{line_at}
+use Rattle.sk_records.specs.Holding.Ready.{close_span}
 use Rattle.sk_records.proofs.RecordGoes.{kept, goes_header, goes_behind, goes_tail}
 use Rattle.sk_records.proofs.adding.put_record.Goals.{in-Header+in_ok-line-in-Header+in_ok-push_place-in-Header, in-Record+in_ok-line-in-Record+in_ok-push_place-in-Record, in-Tail+in_ok-push_place-in-Tail}
 use Rattle.sk_records.proofs.adding.put_record.Goals as goal

@@ -1,10 +1,8 @@
-use Rattle.std.proofs.Common.{◌≡◌, [], length, sym, arith}
-use Rattle.std.proofs.lemmas.Bool.{eqb-true}
+use Rattle.std.proofs.Common.{◌≡◌, length, arith}
 use Rattle.std.proofs.lemmas.Result.{on_ok_weaker, on_err_weaker}
-use Rattle.sk_records.specs.Places.{places_from}
-use Rattle.sk_records.proofs.RecordPut.{none_there}
+use Rattle.sk_records.specs.Holding.Places.{places_from}
 use Rattle.sk_records.proofs.RoomMade.{both_err}
-use Rattle.sk_records.proofs.AnewSet.{kept_alike, anew_standing, anew_none}
+use Rattle.sk_records.proofs.AnewSet.{kept_alike, anew_standing, anew_added}
 use Rattle.sk_records.proofs.anew.set_anew.Goals as goal
 
 pub returns-then-count-gt0-clause-ok : goal.returns-then-count-gt0-clause-ok
@@ -19,10 +17,11 @@ returns-then-count-gt0-clause-err c =
     (λ e. kept_alike c.args.text.now.items c.set_standing.new.text.items c.args.header.now c.args.items.now.items c.set_standing.new.items.items c.args.places.now.items c.set_standing.new.places.items c.set_standing.ensures.grown c.requires.first c.requires.held e.0 e.1)
     (both_err _ _ c.set_standing.result c.set_standing.ensures.items c.set_standing.ensures.places)
 
-pub returns-then-is_empty-clause-ok : goal.returns-then-is_empty-clause-ok
-returns-then-is_empty-clause-ok c =
+pub returns-else-count-gt0-clause-ok : goal.returns-else-count-gt0-clause-ok
+returns-else-count-gt0-clause-ok c =
     let items = c.args.items.now.items in
     let counted : c.count.result ≡ length (places_from c.args.kind 0 items) = rw c.deref-2.ensures.value at c.count.ensures in
     let none : length (places_from c.args.kind 0 items) ≡ 0 = omega (arith, counted, c.if-count-gt0.false) in
-    let empty : c.args.lines.now ≡ [] = none_there c.args.lines.now (eqb-true (length c.args.lines.now) 0 (sym c.if-is_empty.ensures)) in
-    anew_none c.args.text.now.items c.args.kind c.args.lines.now c.args.header.now items c.args.places.now.items c.requires.first c.requires.held none empty
+    on_ok_weaker c.change_all.result
+    (λ made. anew_added c.args.text.now.items c.change_all.new.text.items c.args.kind c.args.lines.now c.args.header.now c.change_all.new.header items c.change_all.new.items.items c.change_all.new.places.items none made)
+    c.change_all.ensures.ok

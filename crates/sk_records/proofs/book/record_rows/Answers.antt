@@ -1,6 +1,6 @@
 use Rattle.std.proofs.Common.{◌≡◌, ℕ, ◌<◌, length, get_or, arith, ap, sym, ◌∙◌}
 use Rattle.sk_records.specs.declared.items.Item.TheVariants.{Held}
-use Rattle.sk_records.specs.Places.{places_from}
+use Rattle.sk_records.specs.Holding.Places.{places_from}
 use Rattle.sk_records.proofs.PlacesLemmas.{length_places, find_record, held_within, same_record}
 use Rattle.sk_records.proofs.book.record_rows.Goals as goal
 

@@ -1,7 +1,7 @@
 use Rattle.std.proofs.Common.{refl}
 use Rattle.std.proofs.lemmas.Result.{on_ok_weaker, on_err_weaker}
 use Rattle.sk_records.specs.Rows.{with_value}
-use Rattle.sk_records.specs.Held.{RecordWithin}
+use Rattle.sk_records.specs.Holding.Held.{RecordWithin}
 use Rattle.sk_records.proofs.Growth.{grown_none}
 use Rattle.sk_records.proofs.RowsSet.{no_record, record_kept, record_changed}
 use Rattle.sk_records.proofs.changes.set_item_value.Goals as goal

@@ -1,6 +1,6 @@
 use Rattle.std.proofs.Common.{refl, sym, ◌∙◌, subst}
 use Rattle.std.proofs.lemmas.Result.{on_ok_weaker, on_err_weaker}
-use Rattle.sk_records.specs.Held.{item_blocks, ItemWithin}
+use Rattle.sk_records.specs.Holding.Held.{item_blocks, ItemWithin}
 use Rattle.sk_records.proofs.BookChanged.{same_rows}
 use Rattle.sk_records.proofs.changes.set_list_at.Goals as goal
 

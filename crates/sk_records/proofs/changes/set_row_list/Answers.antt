@@ -1,7 +1,7 @@
 use Rattle.std.proofs.Common.{List, ap, ◌∙◌}
 use Rattle.sk_records.specs.Rows.{Row, with_map}
 use Rattle.sk_records.specs.Given.{given_list}
-use Rattle.sk_records.specs.Held.{rows_at}
+use Rattle.sk_records.specs.Holding.Held.{rows_at}
 use Rattle.sk_records.proofs.Growth.{rows_same, rows_grow}
 use Rattle.sk_records.proofs.ListSet.{list_at, list_within}
 use Rattle.sk_records.proofs.changes.set_row_list.Goals as goal

@@ -1,6 +1,6 @@
 use Rattle.std.proofs.Common.{◌≡◌, drop}
 use Rattle.sk_records.specs.Classes.{after_run}
-use Rattle.sk_records.specs.Parts.{part_test}
+use Rattle.sk_records.specs.Holding.Parts.{part_test}
 use Rattle.sk_records.proofs.classes.after_run.Given as goal
 
 abbrev pub invariant-loop-i : goal.invariant-loop-i

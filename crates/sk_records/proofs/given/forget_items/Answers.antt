@@ -1,7 +1,7 @@
 use Rattle.std.proofs.Common.{◌≡◌, ◌<◌, List, length, take, arith, ap, sym, ◌∙◌, refl}
 use Rattle.std.proofs.lemmas.List.{take_all, length-set}
 use Rattle.sk_records.specs.Written.{bare}
-use Rattle.sk_records.specs.Held.{blocks_at}
+use Rattle.sk_records.specs.Holding.Held.{blocks_at}
 use Rattle.sk_records.proofs.GivenLemmas.{bare_rest, bare_blocks, bare_items}
 use Rattle.sk_records.proofs.given.forget_items.Goals as goal
 

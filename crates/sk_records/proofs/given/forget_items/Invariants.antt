@@ -1,7 +1,7 @@
 use Rattle.std.proofs.Common.{◌≡◌, ℕ, List, length, take, drop}
 use Rattle.std.specs.List.{All}
 use Rattle.sk_records.specs.Written.{bare}
-use Rattle.sk_records.specs.Held.{blocks_at, ItemWithin}
+use Rattle.sk_records.specs.Holding.Held.{blocks_at, ItemWithin}
 use Rattle.sk_records.proofs.given.forget_items.Given as goal
 
 abbrev pub invariant-loop-i : goal.invariant-loop-i

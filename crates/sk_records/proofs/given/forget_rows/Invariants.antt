@@ -1,5 +1,5 @@
 use Rattle.std.proofs.Common.{◌≡◌, ◌++◌, map, length, take, drop}
-use Rattle.sk_records.specs.GivenHeld.{bare_held}
+use Rattle.sk_records.specs.Holding.GivenHeld.{bare_held}
 use Rattle.sk_records.proofs.given.forget_rows.Given as goal
 
 abbrev pub invariant-loop-i : goal.invariant-loop-i

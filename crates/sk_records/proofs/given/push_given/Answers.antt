@@ -1,6 +1,6 @@
 use Rattle.std.proofs.Common.{ap, sym, ◌∙◌}
 use Rattle.sk_records.specs.Reading.{read_from, Outside}
-use Rattle.sk_records.specs.Held.{blocks_at}
+use Rattle.sk_records.specs.Holding.Held.{blocks_at}
 use Rattle.sk_records.proofs.given.push_given.Goals as goal
 
 pub returns-in-Ok-clause-items : goal.returns-in-Ok-clause-items

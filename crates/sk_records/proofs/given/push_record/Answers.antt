@@ -2,8 +2,8 @@ use Rattle.std.proofs.Common.{◌≡◌, [], ◌∷◌, ◌++◌, ap, ◌∙◌,
 use Rattle.std.specs.List.{All}
 use Rattle.sk_records.specs.declared.items.Item.{Item}
 use Rattle.sk_records.specs.declared.items.Item.TheVariants.{Held}
-use Rattle.sk_records.specs.Held.{ItemWithin}
-use Rattle.sk_records.specs.GivenHeld.{IsGivenAs}
+use Rattle.sk_records.specs.Holding.Held.{ItemWithin}
+use Rattle.sk_records.specs.Holding.GivenHeld.{IsGivenAs}
 use Rattle.sk_records.proofs.GivenLemmas.{record_given}
 use Rattle.sk_records.proofs.given.push_record.Goals as goal
 

@@ -1,6 +1,6 @@
 use Rattle.std.proofs.Common.{◌≡◌, ap, sym, ◌∙◌}
-use Rattle.sk_records.specs.Places.{places_from}
-use Rattle.sk_records.specs.Inserted.{last_of}
+use Rattle.sk_records.specs.Holding.Places.{places_from}
+use Rattle.sk_records.specs.Holding.Inserted.{last_of}
 use Rattle.sk_records.proofs.PlacesLemmas.{list_at}
 use Rattle.sk_records.proofs.Shifted.{last_is, nearest_own}
 use Rattle.sk_records.proofs.inserting.+nearest.Goals as goal

@@ -1,7 +1,7 @@
 use Rattle.std.proofs.Common.{◌≡◌, true, length}
 use Rattle.std.specs.List.{All}
 use Rattle.sk_records.specs.declared.items.Item.{Item}
-use Rattle.sk_records.specs.Removed.{is_gone}
+use Rattle.sk_records.specs.Holding.Removed.{is_gone}
 use Rattle.sk_records.proofs.inserting.gones.Given as goal
 
 abbrev pub invariant-loop-i : goal.invariant-loop-i

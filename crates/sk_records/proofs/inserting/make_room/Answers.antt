@@ -1,8 +1,8 @@
 use Rattle.std.proofs.Common.{◌≤◌, List, length, arith, sym, ap, ◌∙◌, subst}
 use Rattle.std.proofs.lemmas.Result.{on_ok_weaker}
 use Rattle.sk_records.specs.declared.items.Item.{Item}
-use Rattle.sk_records.specs.Places.{all_places}
-use Rattle.sk_records.specs.Inserted.{StandsAlike}
+use Rattle.sk_records.specs.Holding.Places.{all_places}
+use Rattle.sk_records.specs.Holding.Inserted.{StandsAlike}
 use Rattle.sk_records.proofs.BookChanged.{either_way}
 use Rattle.sk_records.proofs.RoomMade.{no_places, lists_put, alike_same, alike_put, room_put, both_ok, both_err}
 use Rattle.sk_records.proofs.inserting.make_room.Goals as goal

@@ -1,5 +1,5 @@
 use Rattle.std.proofs.Common.{◌≡◌, ◌++◌, map, length, take, drop}
-use Rattle.sk_records.specs.Inserted.{shifted}
+use Rattle.sk_records.specs.Holding.Inserted.{shifted}
 use Rattle.sk_records.proofs.inserting.shift_list.Given as goal
 
 abbrev pub invariant-loop-i : goal.invariant-loop-i

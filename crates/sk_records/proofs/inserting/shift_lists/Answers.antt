@@ -2,8 +2,8 @@ use Rattle.std.proofs.Common.{◌≡◌, ◌<◌, ◌+◌, ◌^◌, ℕ, List, V
 use Rattle.std.specs.List.{All}
 use Rattle.std.proofs.lemmas.List.{length-map, map-set, length-set}
 use Rattle.std.proofs.Math.ListN.{get_or-map}
-use Rattle.sk_records.specs.Places.{lists_of}
-use Rattle.sk_records.specs.Inserted.{shifted}
+use Rattle.sk_records.specs.Holding.Places.{lists_of}
+use Rattle.sk_records.specs.Holding.Inserted.{shifted}
 use Rattle.sk_records.proofs.Shifted.{still, mapped_more}
 use Rattle.sk_records.proofs.inserting.shift_lists.Goals as goal
 

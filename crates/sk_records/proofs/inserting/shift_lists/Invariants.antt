@@ -1,6 +1,6 @@
 use Rattle.std.proofs.Common.{◌≡◌, ◌++◌, ℕ, List, map, length, take, drop}
-use Rattle.sk_records.specs.Places.{lists_of}
-use Rattle.sk_records.specs.Inserted.{shifted}
+use Rattle.sk_records.specs.Holding.Places.{lists_of}
+use Rattle.sk_records.specs.Holding.Inserted.{shifted}
 use Rattle.sk_records.proofs.inserting.shift_lists.Given as goal
 
 abbrev pub invariant-loop-i : goal.invariant-loop-i

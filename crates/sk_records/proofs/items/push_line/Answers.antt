@@ -1,6 +1,6 @@
 use Rattle.std.proofs.Common.{◌≡◌, ℕ, ◌-◌, length, arith, ap, ◌∙◌, set}
 use Rattle.sk_records.specs.declared.items.Item.TheVariants.{Lines}
-use Rattle.sk_records.specs.Held.{blocks_at, IsJoined}
+use Rattle.sk_records.specs.Holding.Held.{blocks_at, IsJoined}
 use Rattle.sk_records.proofs.HeldLines.{blocks_joined, blocks_alone}
 use Rattle.sk_records.proofs.items.push_line.Goals as goal
 

@@ -1,15 +1,15 @@
 use Rattle.std.proofs.Common.{◌≡◌, ℕ, List, [], ◌∷◌, ◌++◌, map, length, arith, sym, ◌∙◌, ap, subst, length-append}
 use Rattle.std.specs.List.{All}
 use Rattle.std.proofs.lemmas.List.Elements.{All-head, All-tail, All-push, All-nil}
-use Rattle.std.proofs.Common.{None}
 use Rattle.sk_text.specs.Lines.{PlacedLine, IsPart, line_at, lines_in, lines_of, whole_lines}
-use Rattle.sk_text.proofs.Whole.{placed_unplaced}
+use Rattle.sk_text.specs.LineLaws.{placed_unplaced}
 use Rattle.sk_records.specs.Rows.{Role}
 use Rattle.sk_text.specs.Lent.{placed_line}
 use Rattle.sk_records.specs.declared.rows.Row as held
 use Rattle.sk_records.specs.Given.{list_row, list_role}
-use Rattle.sk_records.specs.Held.{rows_at, RowWithin}
-use Rattle.sk_records.specs.Moves.{IsPartFrom}
+use Rattle.sk_records.specs.Holding.Held.{row_of, rows_at, RowWithin}
+use Rattle.sk_records.proofs.RowsSet.{row_within}
+use Rattle.sk_records.specs.Holding.Moves.{IsPartFrom}
 use Rattle.sk_records.proofs.ReadSteps.{span_of, span_within}
 use Rattle.sk_records.proofs.WrittenLemmas.{parts_behind}
 use Rattle.sk_records.proofs.ListSet.{given_more}
@@ -29,6 +29,20 @@ loop-line-init c =
           rw c.new-rows.ensures.items (ap (λ (ps : List PlacedLine). map list_row (map line_at ps)) items ∙ ap (map list_row) (placed_unplaced 0 (whole_lines given)));
     }
 
+pub overflow_cast-span-in-loop-line : goal.overflow_cast-span-in-loop-line
+overflow_cast-span-in-loop-line c =
+    let p : PlacedLine = placed_line c.in-Some.line in
+    let text = c.extend_from_slice.new.self.items in
+    let parts : All (IsPartFrom text c.len-base.result) (p ∷ c.next.new.self) = subst (All (IsPartFrom text c.len-base.result)) c.in-Some.ensures.steps c.loop-line.invariant.parts in
+    omega (arith, (All-head (IsPartFrom text c.len-base.result) p c.next.new.self parts).within, length-append p.line.body p.line.ending)
+
+pub overflow_cast-span-in-loop-line-2 : goal.overflow_cast-span-in-loop-line-2
+overflow_cast-span-in-loop-line-2 c =
+    let p : PlacedLine = placed_line c.in-Some.line in
+    let text = c.extend_from_slice.new.self.items in
+    let parts : All (IsPartFrom text c.len-base.result) (p ∷ c.next.new.self) = subst (All (IsPartFrom text c.len-base.result)) c.in-Some.ensures.steps c.loop-line.invariant.parts in
+    omega (arith, (All-head (IsPartFrom text c.len-base.result) p c.next.new.self parts).within, length-append p.line.body p.line.ending)
+
 pub overflow_add-end : goal.overflow_add-end
 overflow_add-end c =
     let p : PlacedLine = placed_line c.in-Some.line in
@@ -44,12 +58,12 @@ loop-line-preserved c =
     let rest = c.next.new.self in
     let parts : All (IsPartFrom text base) (p ∷ rest) = subst (All (IsPartFrom text base)) c.in-Some.ensures.steps c.loop-line.invariant.parts in
     let here = All-head (IsPartFrom text base) p rest parts in
-    let made : held.Row = record { span = span_of text base p here; role = list_role p.line.body; number = None } in
+    let made : held.Row = row_of (span_of text base p here) (list_role p.line.body) 0 in
     let role : c.list_role.result ≡ list_role p.line.body = c.list_role.ensures in
-    let pushed : c.push.new.self.items ≡ c.loop-line.rows.items ++ made ∷ [] = c.in_ok-push.ensures.items ∙ ap (λ (r : Role). c.loop-line.rows.items ++ record { span = span_of text base p here; role = r; number = None } ∷ []) role in
+    let pushed : c.push.new.self.items ≡ c.loop-line.rows.items ++ made ∷ [] = c.in_ok-push.ensures.items ∙ ap (λ (x : held.Row). c.loop-line.rows.items ++ x ∷ []) (c.of.ensures ∙ ap (λ (r : Role). row_of (span_of text base p here) r 0) role) in
     let before = subst (λ (ps : List PlacedLine). rows_at text c.loop-line.rows.items ++ map list_row (map line_at ps) ≡ map list_row (lines_in c.args.given.now)) c.in-Some.ensures.steps c.loop-line.invariant.same in
     record {
       parts = All-tail (IsPartFrom text base) p rest parts;
-      within = rw pushed (All-push (RowWithin text) c.loop-line.rows.items made c.loop-line.invariant.within (span_within text base p here));
+      within = rw pushed (All-push (RowWithin text) c.loop-line.rows.items made c.loop-line.invariant.within (row_within text (span_of text base p here) (list_role p.line.body) 0 (span_within text base p here)));
       same = ap (λ (rows : List held.Row). rows_at text rows ++ map list_row (map line_at rest)) pushed ∙ given_more text base p rest c.loop-line.rows.items (map list_row (lines_in c.args.given.now)) here before;
     }

@@ -2,8 +2,8 @@ use Rattle.std.proofs.Common.{◌≡◌, ◌++◌, map}
 use Rattle.std.specs.List.{All}
 use Rattle.sk_text.specs.Lines.{line_at, lines_in}
 use Rattle.sk_records.specs.Given.{list_row}
-use Rattle.sk_records.specs.Held.{rows_at, RowWithin}
-use Rattle.sk_records.specs.Moves.{IsPartFrom}
+use Rattle.sk_records.specs.Holding.Held.{rows_at, RowWithin}
+use Rattle.sk_records.specs.Holding.Moves.{IsPartFrom}
 use Rattle.sk_records.proofs.lists.push_list.Given as goal
 
 abbrev pub invariant-loop-line : goal.invariant-loop-line

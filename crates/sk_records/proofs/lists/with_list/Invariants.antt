@@ -1,5 +1,5 @@
 use Rattle.std.proofs.Common.{◌≡◌, ◌++◌, drop}
-use Rattle.sk_records.specs.Changes.{with_list, list_rest}
+use Rattle.sk_records.specs.Holding.Changes.{with_list, list_rest}
 use Rattle.sk_records.proofs.lists.with_list.Given as goal
 
 abbrev pub invariant-loop-row : goal.invariant-loop-row

@@ -1,4 +1,4 @@
-use Rattle.sk_records.specs.Held.{rows_at}
+use Rattle.sk_records.specs.Holding.Held.{rows_at}
 use Rattle.sk_records.proofs.PlacesLemmas.{number_or_none}
 use Rattle.sk_records.proofs.lookup.last_number.Goals as goal
 

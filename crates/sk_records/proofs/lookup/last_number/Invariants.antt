@@ -1,7 +1,7 @@
 use Rattle.std.proofs.Common.{◌≡◌, drop}
 use Rattle.std.specs.Prelude.{if◌then◌else◌}
 use Rattle.sk_records.specs.Rows.{last_value, last_number, is_known}
-use Rattle.sk_records.specs.Held.{rows_at}
+use Rattle.sk_records.specs.Holding.Held.{rows_at}
 use Rattle.sk_records.proofs.lookup.last_number.Given as goal
 
 abbrev pub invariant-loop-row : goal.invariant-loop-row

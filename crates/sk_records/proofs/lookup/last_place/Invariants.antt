@@ -1,7 +1,7 @@
 use Rattle.std.proofs.Common.{◌≡◌, ◌+◌, drop}
 use Rattle.std.specs.Option.{option_map, option_or}
 use Rattle.sk_records.specs.Rows.{last_place}
-use Rattle.sk_records.specs.Held.{rows_at}
+use Rattle.sk_records.specs.Holding.Held.{rows_at}
 use Rattle.sk_records.proofs.lookup.last_place.Given as goal
 
 abbrev pub invariant-loop-i : goal.invariant-loop-i

@@ -1,6 +1,6 @@
 use Rattle.std.proofs.Common.{◌≡◌, ℕ, List, [], get_or, arith, ap, ◌∙◌}
 use Rattle.std.proofs.lemmas.List.{get_or_default}
-use Rattle.sk_records.specs.Places.{places_from}
+use Rattle.sk_records.specs.Holding.Places.{places_from}
 use Rattle.sk_records.proofs.PlacesLemmas.{list_at, find_record}
 use Rattle.sk_records.proofs.places.place_of.Goals as goal
 

@@ -3,12 +3,29 @@ use Rattle.std.specs.List.{All}
 use Rattle.std.proofs.lemmas.List.Elements.{All-head, All-tail}
 use Rattle.sk_text.specs.Lines.{TextLine, PlacedLine, line_at, AreLines}
 use Rattle.sk_text.specs.Lent.{placed_line}
-use Rattle.sk_text.proofs.Whole.{later_lines}
+use Rattle.sk_text.specs.LineLaws.{later_lines}
 use Rattle.sk_records.specs.Reading.{read_from, Outside}
-use Rattle.sk_records.specs.Held.{blocks_at, line_at as line_held}
-use Rattle.sk_records.specs.Moves.{onto, state_of, IsPartFrom}
+use Rattle.sk_records.specs.Holding.Held.{blocks_at, line_at as line_held}
+use Rattle.sk_records.specs.Holding.Moves.{onto, state_of, IsPartFrom}
 use Rattle.sk_records.proofs.ReadSteps.{read_more, read_stop, span_of, span_is_line, span_line}
 use Rattle.sk_records.proofs.reading.read_lines.Goals as goal
+
+pub overflow_cast-span-in-loop-line : goal.overflow_cast-span-in-loop-line
+overflow_cast-span-in-loop-line c =
+    let p : PlacedLine = placed_line c.in-Some.line in
+    let parts : All (IsPartFrom c.args.text.now c.args.base) (p ∷ c.next.new.self) = subst (All (IsPartFrom c.args.text.now c.args.base)) c.in-Some.ensures.steps c.loop-line.invariant.parts in
+    let here = All-head (IsPartFrom c.args.text.now c.args.base) p c.next.new.self parts in
+    omega (arith, here.within, length-append p.line.body p.line.ending, c.requires.places)
+
+pub overflow_cast-span-in-loop-line-2 : goal.overflow_cast-span-in-loop-line-2
+overflow_cast-span-in-loop-line-2 c =
+    let p : PlacedLine = placed_line c.in-Some.line in
+    let parts : All (IsPartFrom c.args.text.now c.args.base) (p ∷ c.next.new.self) = subst (All (IsPartFrom c.args.text.now c.args.base)) c.in-Some.ensures.steps c.loop-line.invariant.parts in
+    let here = All-head (IsPartFrom c.args.text.now c.args.base) p c.next.new.self parts in
+    omega (arith, here.within, length-append p.line.body p.line.ending, c.requires.places)
+
+pub step-requires-clause-some : goal.step-requires-clause-some
+step-requires-clause-some c = c.loop-line.invariant.some
 
 pub overflow_add-end : goal.overflow_add-end
 overflow_add-end c =
@@ -47,6 +64,7 @@ loop-line-preserved c =
       parts = All-tail (IsPartFrom text c.args.base) p rest parts;
       lines = later_lines p.line (map line_at rest) lines;
       few = omega (arith, c.loop-line.invariant.few, ap length c.in-Some.ensures.steps);
+      some = omega arith;
       within = c.step.ensures.within;
       current = c.in-Ok.ensures.current;
       below = c.in-Ok.ensures.below;

@@ -2,8 +2,8 @@ use Rattle.std.proofs.Common.{◌≡◌, ◌+◌, ◌<◌, ◌^◌, map, length}
 use Rattle.std.specs.List.{All}
 use Rattle.sk_text.specs.Lines.{line_at, AreLines}
 use Rattle.sk_records.specs.Reading.{read_from, Outside}
-use Rattle.sk_records.specs.Held.{blocks_at, ItemWithin}
-use Rattle.sk_records.specs.Moves.{onto, state_of, OpenWithin, IsBelow, IsPartFrom}
+use Rattle.sk_records.specs.Holding.Held.{blocks_at, ItemWithin}
+use Rattle.sk_records.specs.Holding.Moves.{onto, state_of, OpenWithin, IsBelow, IsPartFrom}
 use Rattle.sk_records.proofs.reading.read_lines.Given as goal
 
 abbrev pub invariant-loop-line : goal.invariant-loop-line
@@ -11,6 +11,7 @@ invariant-loop-line l = record {
   parts : All (IsPartFrom l.text l.base) l.line-iterator;
   lines : AreLines (map line_at l.line-iterator);
   few : l.number + length l.line-iterator < 2 ^ 32;
+  some : 0 < l.number;
   within : All (ItemWithin l.text) l.items.items;
   current : OpenWithin l.text l.current;
   below : IsBelow l.number l.current;

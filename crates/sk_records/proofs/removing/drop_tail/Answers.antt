@@ -1,5 +1,5 @@
 use Rattle.std.proofs.Common.{◌≡◌, ◌<◌, length, arith, false, Some, ap, sym, ◌∙◌}
-use Rattle.sk_records.specs.Removed.{is_gone, shrunk, shrink_first}
+use Rattle.sk_records.specs.Holding.Removed.{is_gone, shrunk, shrink_first}
 use Rattle.sk_records.proofs.Blank.{set_shrunk}
 use Rattle.sk_records.proofs.removing.drop_tail.Goals as goal
 

@@ -1,7 +1,7 @@
 use Rattle.std.proofs.Common.{◌≡◌, ◌++◌, take, drop}
 use Rattle.std.specs.List.{All}
-use Rattle.sk_records.specs.Held.{ItemWithin}
-use Rattle.sk_records.specs.Removed.{shrink_first}
+use Rattle.sk_records.specs.Holding.Held.{ItemWithin}
+use Rattle.sk_records.specs.Holding.Removed.{shrink_first}
 use Rattle.sk_records.proofs.removing.drop_tail.Given as goal
 
 abbrev pub invariant-loop-item : goal.invariant-loop-item

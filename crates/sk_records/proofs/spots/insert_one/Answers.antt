@@ -1,7 +1,7 @@
 use Rattle.std.proofs.Common.{◌≡◌, List, [], ◌∷◌, ◌++◌, ap, sym, ◌∙◌}
 use Rattle.sk_records.specs.declared.items.Item.{Item}
 use Rattle.sk_records.specs.declared.items.Item.TheVariants.{Lines}
-use Rattle.sk_records.specs.Places.{places_from, all_places}
+use Rattle.sk_records.specs.Holding.Places.{places_from, all_places}
 use Rattle.sk_records.proofs.BookChanged.{either_way}
 use Rattle.sk_records.proofs.RoomMade.{lists_put, both_ok, both_err}
 use Rattle.sk_records.proofs.spots.insert_one.Goals as goal

@@ -1,9 +1,9 @@
 use Rattle.std.proofs.Common.{◌≡◌, ◌∷◌, Some, None, length, arith, ap, sym, ◌∙◌, subst, length-append}
 use Rattle.sk_records.specs.declared.items.Item.TheVariants.{Held}
 use Rattle.sk_records.specs.Kinds.{kinds_to}
-use Rattle.sk_records.specs.Inserted.{nearest}
+use Rattle.sk_records.specs.Holding.Inserted.{nearest}
 use Rattle.sk_records.specs.declared.spots.Before.{Before}
-use Rattle.sk_records.specs.Ready.{IsReady}
+use Rattle.sk_records.specs.Holding.Ready.{IsReady}
 use Rattle.sk_records.proofs.NewPlace.{new_place_behind}
 use Rattle.sk_records.proofs.ReadyLemmas.{alike_blocks, ready_none, spot_blocks, spot_within, spot_below, ready_spot}
 use Rattle.sk_records.proofs.spots.make_ready.Goals as goal

@@ -3,9 +3,9 @@ use Rattle.std.specs.List.{All}
 use Rattle.std.proofs.lemmas.List.{take-append-drop}
 use Rattle.sk_records.specs.declared.items.Item.{Item}
 use Rattle.sk_records.specs.declared.items.Item.TheVariants.{Lines, Held}
-use Rattle.sk_records.specs.Held.{ItemWithin}
-use Rattle.sk_records.specs.Places.{all_places}
-use Rattle.sk_records.specs.Spots.{gone_len, IsSpot}
+use Rattle.sk_records.specs.Holding.Held.{ItemWithin}
+use Rattle.sk_records.specs.Holding.Places.{all_places}
+use Rattle.sk_records.specs.Holding.Spots.{gone_len, IsSpot}
 use Rattle.std.proofs.lemmas.List.Elements.{All-append, All-cons}
 use Rattle.sk_records.proofs.HeldLines.{all_left, all_right}
 use Rattle.sk_records.proofs.SpotLemmas.{gone_below, front_within, back_is, spot_end, spot_front_other, spot_blank, spot_more, count_is, lists_shrunk, put_and_shrunk}

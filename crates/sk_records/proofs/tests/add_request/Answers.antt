@@ -4,7 +4,7 @@ use Rattle.sk_text.specs.Lines as Text
 use Rattle.sk_records.specs.declared.kinds.Kind.TheVariants.{Request}
 use Rattle.sk_records.specs.Rows.{Plain}
 use Rattle.sk_records.specs.Classes as Classes
-use Rattle.sk_records.proofs.TextKept.{no_feed}
+use Rattle.sk_records.specs.Laws.TextKept.{no_feed}
 use Rattle.sk_records.proofs.tests.add_request.Goals as goal
 
 pub add_record-requires : goal.add_record-requires

@@ -4,7 +4,7 @@ use Rattle.sk_text.specs.Lines as Text
 use Rattle.sk_records.specs.declared.kinds.Kind.TheVariants.{Entity}
 use Rattle.sk_records.specs.Rows.{Plain}
 use Rattle.sk_records.specs.Classes as Classes
-use Rattle.sk_records.proofs.TextKept.{no_feed}
+use Rattle.sk_records.specs.Laws.TextKept.{no_feed}
 use Rattle.sk_records.proofs.tests.set_entity.Goals as goal
 
 pub set_entities-requires : goal.set_entities-requires

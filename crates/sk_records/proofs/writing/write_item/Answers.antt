@@ -1,7 +1,7 @@
 use Rattle.std.proofs.Common.{◌++◌, sym, ap, ◌∙◌, append_assoc}
 use Rattle.sk_text.specs.Lines.{joined}
 use Rattle.sk_records.specs.Reading.{row_lines}
-use Rattle.sk_records.specs.Held.{bytes_at, rows_at, RecordWithin}
+use Rattle.sk_records.specs.Holding.Held.{bytes_at, rows_at, RecordWithin}
 use Rattle.sk_records.proofs.WrittenLemmas.{stretch_bytes, record_bytes}
 use Rattle.sk_records.proofs.writing.write_item.Goals as goal
 

@@ -1,6 +1,6 @@
 use Rattle.std.proofs.Common.{◌≡◌, ◌++◌, take, drop, length}
 use Rattle.sk_records.specs.Written.{bytes_of}
-use Rattle.sk_records.specs.Held.{blocks_at}
+use Rattle.sk_records.specs.Holding.Held.{blocks_at}
 use Rattle.sk_records.proofs.writing.write_items.Given as goal
 
 abbrev pub invariant-loop-item : goal.invariant-loop-item

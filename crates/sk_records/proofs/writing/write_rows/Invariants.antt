@@ -1,7 +1,7 @@
 use Rattle.std.proofs.Common.{◌≡◌, ◌++◌, take, drop, length}
 use Rattle.sk_text.specs.Lines.{joined}
 use Rattle.sk_records.specs.Reading.{row_lines}
-use Rattle.sk_records.specs.Held.{rows_at}
+use Rattle.sk_records.specs.Holding.Held.{rows_at}
 use Rattle.sk_records.proofs.writing.write_rows.Given as goal
 
 abbrev pub invariant-loop-row : goal.invariant-loop-row

@@ -1,7 +1,7 @@
 use Rattle.std.proofs.Common.{length, arith, add-one}
 use Rattle.std.proofs.lemmas.Bool.{eq-eqb, eqb-true}
 use Rattle.std.proofs.lemmas.List.{take_all, drop_all}
-use Rattle.sk_text.proofs.Whole.{first_line, only_line}
+use Rattle.sk_text.specs.LineLaws.{first_line, only_line}
 use Rattle.sk_text.proofs.iter.first_len.Goals as goal
 
 pub returns-in-Some-clause-first : goal.returns-in-Some-clause-first

@@ -1,5 +1,5 @@
 use Rattle.sk_text.specs.Lines.{whole_lines}
-use Rattle.sk_text.proofs.Whole.{placed_joined, lines_parts, placed_ended, placed_unplaced, lines_few}
+use Rattle.sk_text.specs.LineLaws.{placed_joined, lines_parts, placed_ended, placed_unplaced, lines_few}
 use Rattle.sk_text.proofs.iter.lines.Goals as goal
 
 pub returns-clause-whole : goal.returns-clause-whole

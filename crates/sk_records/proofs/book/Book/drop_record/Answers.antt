@@ -1,8 +1,8 @@
 use Rattle.std.proofs.Common.{◌≡◌, ◌<◌, ◌+◌, ◌++◌, ◌∷◌, length, take, drop, get_or, ap, ◌∙◌}
 use Rattle.sk_records.specs.declared.items.Item.TheVariants.{Gone}
 use Rattle.sk_records.specs.Blocks.{dropped}
-use Rattle.sk_records.specs.Places.{places_from}
-use Rattle.sk_records.specs.Removed.{shrink_first}
+use Rattle.sk_records.specs.Holding.Places.{places_from}
+use Rattle.sk_records.specs.Holding.Removed.{shrink_first}
 use Rattle.sk_records.proofs.PlacesLemmas.{list_of_kind}
 use Rattle.sk_records.proofs.BookChanged.{in_places}
 use Rattle.sk_records.proofs.BookDropped.{book_dropped, dropped_stays, six_lists}

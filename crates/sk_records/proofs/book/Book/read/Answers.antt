@@ -1,5 +1,5 @@
-use Rattle.sk_records.specs.BookHeld.{book_blocks}
-use Rattle.sk_records.proofs.ReadSound.{text_sound}
+use Rattle.sk_records.specs.Holding.BookHeld.{book_blocks}
+use Rattle.sk_records.specs.Laws.ReadSound.{text_sound}
 use Rattle.sk_records.proofs.book.Book.read.Goals as goal
 
 pub invariant_of-result : goal.invariant_of-result

@@ -5,9 +5,9 @@ use Rattle.sk_records.specs.Given.{given_list}
 use Rattle.sk_records.specs.declared.kinds.Kind.{Kind}
 use Rattle.sk_records.specs.Blocks.{on_record}
 use Rattle.sk_records.specs.Written.{IsText}
-use Rattle.sk_records.specs.Places.{places_from}
-use Rattle.sk_records.specs.BookHeld.{book_blocks}
-use Rattle.sk_records.proofs.TextKept.{text_list}
+use Rattle.sk_records.specs.Holding.Places.{places_from}
+use Rattle.sk_records.specs.Holding.BookHeld.{book_blocks}
+use Rattle.sk_records.specs.Laws.TextKept.{text_list}
 use Rattle.sk_records.proofs.BookChanged.{in_places, book_changed, book_stays, book_unchanged, book_is_kept, either_way}
 use Rattle.sk_records.proofs.book.Book.set_map.Goals as goal
 

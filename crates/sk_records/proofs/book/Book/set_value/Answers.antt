@@ -2,9 +2,9 @@ use Rattle.std.proofs.Common.{◌≡◌, ◌<◌, length, get_or, ap, ◌∙◌}
 use Rattle.std.proofs.lemmas.Result.{on_ok_weaker, on_err_weaker}
 use Rattle.sk_records.specs.Rows.{with_value}
 use Rattle.sk_records.specs.Blocks.{on_record}
-use Rattle.sk_records.specs.Places.{places_from}
-use Rattle.sk_records.specs.BookHeld.{book_blocks}
-use Rattle.sk_records.proofs.TextKept.{text_value}
+use Rattle.sk_records.specs.Holding.Places.{places_from}
+use Rattle.sk_records.specs.Holding.BookHeld.{book_blocks}
+use Rattle.sk_records.specs.Laws.TextKept.{text_value}
 use Rattle.sk_records.proofs.BookChanged.{in_places, book_changed, book_stays, book_unchanged, book_is_kept, either_way}
 use Rattle.sk_records.proofs.book.Book.set_value.Goals as goal
 

@@ -1,6 +1,6 @@
 use Rattle.std.proofs.Common.{◌≡◌, ◌++◌, length, take, arith, sym, ap, ◌∙◌, append_assoc}
 use Rattle.sk_records.specs.Written.{bytes_of}
-use Rattle.sk_records.specs.Held.{bytes_at, blocks_at}
+use Rattle.sk_records.specs.Holding.Held.{bytes_at, blocks_at}
 use Rattle.sk_records.proofs.HeldLines.{line_bytes_at}
 use Rattle.sk_records.proofs.WrittenLemmas.{back}
 use Rattle.sk_records.proofs.book.Book.write.Goals as goal
