@@ -6,23 +6,24 @@ use Rattle.sk_types.specs.declared.entity.ParamValue.{ParamValue}
 use Rattle.sk_types.specs.declared.group.Group.{Group}
 use Rattle.sk_types.specs.declared.group.RemapEntry.{RemapEntry}
 use Rattle.sk_text.specs.Lines.{TextLine}
+use Rattle.sk_types.specs.Lookups.{value_handle}
 use Rattle.sk_records.specs.declared.kinds.Kind.TheVariants as kind
 use Rattle.sk_records.specs.Rows.{with_map}
 use Rattle.sk_records.specs.Blocks.{Block, on_record}
 use Rattle.sk_records.specs.Given.{given_list, list_row}
-use Rattle.sk_model.specs.Typed.{group_handle, param_handle}
+use Rattle.sk_model.specs.Typed.{group_handle}
 use Rattle.sk_model.specs.Changes.{with_first, with_param, with_remap, list_lines, remap_set}
 use Rattle.sk_model.specs.WrittenLines.{IsListText}
-use Rattle.sk_model.proofs.AcceptedNumbers.{two}
-use Rattle.sk_model.proofs.Lookups.{value_found}
-use Rattle.sk_model.proofs.ParamSet.{place_is, stands_first}
+use Rattle.std.proofs.lemmas.Bool.{cases_Bool}
+use Rattle.sk_model.specs.TypingLaws.Lookups.{place_is, value_found}
+use Rattle.sk_model.specs.TypingLaws.ParamSet.{stands_first}
 
 one_more : (k : ℕ) → 1 + k ≡ suc k
 one_more k = omega arith
 
 set_placed : {T : Type 0} (handle : T → ℕ) (id : ℕ) (g : T → T) (d : T) (xs : List T) → set xs (position_or_len (nat_eq id) (map handle xs)) (g (get_or xs (position_or_len (nat_eq id) (map handle xs)) d)) ≡ with_first handle id g xs
 set_placed handle id g d [] = refl
-set_placed handle id g d (x ∷ xs) = elim (two (nat_eq id (handle x))) [
+set_placed handle id g d (x ∷ xs) = elim (cases_Bool (nat_eq id (handle x))) [
   | inl e ↦ rw e refl
   | inr e ↦ rw (e, one_more (position_or_len (nat_eq id) (map handle xs))) (ap (λ l. x ∷ l) (set_placed handle id g d xs))
 ]
@@ -32,11 +33,11 @@ set_first handle id i g d xs at =
     ap (λ (k : ℕ). set xs k (g (get_or xs k d))) (sym (place_is _ _ i at)) ∙ set_placed handle id g d xs
 
 -- the value at a parameter's place
-pub value_placed : {s : ℕ} (id i : ℕ) (v : ℤ) (x d : ParamValue s) (ps : List (ParamValue s)) → position (nat_eq id) (map param_handle ps) ≡ Some i → x ≡ get_or ps i d → set ps i (record x { value = v }) ≡ with_param id v ps
+pub value_placed : {s : ℕ} (id i : ℕ) (v : ℤ) (x d : ParamValue s) (ps : List (ParamValue s)) → position (nat_eq id) (map value_handle ps) ≡ Some i → x ≡ get_or ps i d → set ps i (record x { value = v }) ≡ with_param id v ps
 value_placed {s} id i v x d ps at is =
     ap (λ (y : ParamValue s). set ps i (record y { value = v })) is
-    ∙ set_first param_handle id i (λ (p : ParamValue s). record p { value = v }) d ps at
-    ∙ stands_first id v (get_or ps i d).value ps (sym (value_found id i d ps (map param_handle ps) refl at))
+    ∙ set_first value_handle id i (λ (p : ParamValue s). record p { value = v }) d ps at
+    ∙ stands_first id v (get_or ps i d).value ps (sym (value_found id i d ps (map value_handle ps) refl at))
 
 -- ---- a list at a group's place
 

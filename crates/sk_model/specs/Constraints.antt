@@ -2,7 +2,9 @@
 use Rattle.std.specs.Prelude.{ℕ, ◌==◌, ◌*◌, ◌^◌, nat_lt, ℤ, pos, unsigned_abs, List, [], ◌∷◌, Bool, false, Result, Ok, if◌then◌else◌}
 use Rattle.std.specs.Int.{is_negative}
 use Rattle.sk_types.specs.declared.constraint.Constraint.{Constraint}
-use Rattle.sk_types.specs.Standings.{constraint_standing, is_among}
+use Rattle.sk_types.specs.declared.constraint_kind.TheConstants as constraint_kind
+use Rattle.sk_types.specs.Lists.{is_among}
+use Rattle.sk_types.specs.Standings.{constraint_standing}
 use Rattle.sk_records.specs.Rows.{Row}
 use Rattle.sk_model.specs.declared.faults.ModelFault.{ModelFault}
 use Rattle.sk_model.specs.declared.faults.ModelFault.TheVariants.{BadValue, DuplicateHandle}
@@ -11,13 +13,22 @@ use Rattle.sk_model.specs.declared.keys.Key.TheVariants as key
 use Rattle.sk_model.specs.Chain.{then_of, refused, by_standing, is_out_of, seen_in}
 use Rattle.sk_model.specs.Fields.{handle_under, whole_under, quantity_under, flag_under}
 
--- a distance, a ratio or a diameter (30, 51, 90) isn't negative, an angle (120) is at most 360 degrees either way,
--- and symmetries, horizontals, verticals and tangents (61, 62, 63, 80, 81, 125) have a workplane
+-- constraints whose value isn't negative
+abbrev pub unsigned_constraints : List ℕ
+unsigned_constraints = constraint_kind.POINT_POINT_DISTANCE ∷ constraint_kind.LENGTH_RATIO ∷ constraint_kind.DIAMETER ∷ []
+
+-- constraints that have a workplane
+abbrev pub workplane_constraints : List ℕ
+workplane_constraints =
+    constraint_kind.SYMMETRIC_HORIZONTAL ∷ constraint_kind.SYMMETRIC_VERTICAL ∷ constraint_kind.SYMMETRIC_LINE
+    ∷ constraint_kind.HORIZONTAL ∷ constraint_kind.VERTICAL ∷ constraint_kind.CURVE_CURVE_TANGENT ∷ []
+
+-- an angle is at most 360 degrees either way
 unfoldable pub has_bad_value : ℕ → ℕ → ℤ → ℕ → Bool
 has_bad_value s kind value workplane =
-    if is_among kind (30 ∷ 51 ∷ 90 ∷ []) then is_negative value else
-    if kind == 120 then nat_lt (360 * 2 ^ s) (unsigned_abs value) else
-    if is_among kind (61 ∷ 62 ∷ 63 ∷ 80 ∷ 81 ∷ 125 ∷ []) then workplane == 0 else
+    if is_among kind unsigned_constraints then is_negative value else
+    if kind == constraint_kind.ANGLE then nat_lt (360 * 2 ^ s) (unsigned_abs value) else
+    if is_among kind workplane_constraints then workplane == 0 else
     false
 
 -- a constraint over the handles of earlier constraints, or its first fault

@@ -6,6 +6,7 @@ use Rattle.sk_types.specs.declared.group.Group.{Group}
 use Rattle.sk_types.specs.declared.group.GroupKind.{GroupKind}
 use Rattle.sk_types.specs.declared.group.GroupKind.TheVariants.{Space, Plane, Extrude, Translate, Linked}
 use Rattle.sk_types.specs.declared.group.RemapEntry.{RemapEntry}
+use Rattle.sk_types.specs.declared.group_kind.TheConstants as group_kind
 use Rattle.sk_types.specs.Standings.{group_standing}
 use Rattle.sk_records.specs.Rows.{Row}
 use Rattle.sk_records.specs.MapRows.{entry_lines}
@@ -70,18 +71,18 @@ part_name rows = if is_empty (text_under key.GroupRelativeFile rows) then text_u
 -- what a group of an accepted number makes
 abbrev pub kind_of : ℤ → GroupKind
 kind_of n =
-    if is_number 5000 n then Space else
-    if is_number 5001 n then Plane else
-    if is_number 5100 n then Extrude else
-    if is_number 5201 n then Translate else
+    if is_number group_kind.DRAWING_IN_SPACE n then Space else
+    if is_number group_kind.DRAWING_IN_WORKPLANE n then Plane else
+    if is_number group_kind.EXTRUSION n then Extrude else
+    if is_number group_kind.TRANSLATION n then Translate else
     Linked
 
--- a drawing in a workplane is by quaternion (6000) or by lines (6001); copies go one way (7000) or both (7001)
+-- a drawing in a workplane is by quaternion or by line segments; copies go to one side or to both
 abbrev pub lacks_subtype : GroupKind → ℤ → Bool
 lacks_subtype Space n = false
-lacks_subtype Plane n = not (is_number 6000 n || is_number 6001 n)
-lacks_subtype Extrude n = not (is_number 7000 n || is_number 7001 n)
-lacks_subtype Translate n = not (is_number 7000 n || is_number 7001 n)
+lacks_subtype Plane n = not (is_number group_kind.BY_ORIGIN n || is_number group_kind.BY_LINE_SEGMENTS n)
+lacks_subtype Extrude n = not (is_number group_kind.ONE_SIDED n || is_number group_kind.TWO_SIDED n)
+lacks_subtype Translate n = not (is_number group_kind.ONE_SIDED n || is_number group_kind.TWO_SIDED n)
 lacks_subtype Linked n = false
 
 -- a linked part's scale has to be above 0
@@ -134,13 +135,13 @@ part_of id Linked name = named_part id name
 abbrev pub is_two_sided : GroupKind → ℤ → Bool
 is_two_sided Space n = false
 is_two_sided Plane n = false
-is_two_sided Extrude n = is_number 7001 n
-is_two_sided Translate n = is_number 7001 n
+is_two_sided Extrude n = is_number group_kind.TWO_SIDED n
+is_two_sided Translate n = is_number group_kind.TWO_SIDED n
 is_two_sided Linked n = false
 
 abbrev pub is_by_lines : GroupKind → ℤ → Bool
 is_by_lines Space n = false
-is_by_lines Plane n = is_number 6001 n
+is_by_lines Plane n = is_number group_kind.BY_LINE_SEGMENTS n
 is_by_lines Extrude n = false
 is_by_lines Translate n = false
 is_by_lines Linked n = false

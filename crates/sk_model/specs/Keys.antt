@@ -1,7 +1,7 @@
 -- The keys that are read, as they stand in a text (SolveSpace's file format).
 use Rattle.std.specs.Prelude.{ℕ, List, codes}
 use Rattle.sk_model.specs.declared.keys.Key.{Key}
-use Rattle.sk_model.specs.declared.keys.Key.TheVariants.{GroupHandle, GroupType, GroupOrder, GroupActive, GroupSource, GroupValue, GroupSubtype, GroupSkipFirst, GroupW, GroupX, GroupY, GroupZ, GroupOrigin, GroupEntityB, GroupEntityC, GroupSwapUv, GroupNegateU, GroupNegateV, GroupRelaxed, GroupAllReference, GroupScale, GroupFile, GroupRelativeFile, ParamHandle, ParamValue, RequestHandle, RequestType, RequestWorkplane, RequestGroup, RequestConstruction, ConstraintHandle, ConstraintType, ConstraintGroup, ConstraintWorkplane, ConstraintValue, ConstraintPointA, ConstraintPointB, ConstraintEntityA, ConstraintEntityB, ConstraintEntityC, ConstraintEntityD, ConstraintOther, ConstraintOther2, ConstraintReference}
+use Rattle.sk_model.specs.declared.keys.Key.TheVariants.{GroupHandle, GroupType, GroupOrder, GroupActive, GroupSource, GroupValue, GroupSubtype, GroupSkipFirst, GroupW, GroupX, GroupY, GroupZ, GroupOrigin, GroupEntityB, GroupEntityC, GroupSwapUv, GroupNegateU, GroupNegateV, GroupRelaxed, GroupAllReference, GroupScale, GroupFile, GroupRelativeFile, ParamHandle, ParamValue, RequestHandle, RequestType, RequestWorkplane, RequestGroup, RequestConstruction, RequestExtraPoints, ConstraintHandle, ConstraintType, ConstraintGroup, ConstraintWorkplane, ConstraintValue, ConstraintPointA, ConstraintPointB, ConstraintEntityA, ConstraintEntityB, ConstraintEntityC, ConstraintEntityD, ConstraintOther, ConstraintOther2, ConstraintReference}
 
 unfoldable pub key_bytes : Key → List ℕ
 key_bytes GroupHandle = codes "Group.h.v"
@@ -34,6 +34,7 @@ key_bytes RequestType = codes "Request.type"
 key_bytes RequestWorkplane = codes "Request.workplane.v"
 key_bytes RequestGroup = codes "Request.group.v"
 key_bytes RequestConstruction = codes "Request.construction"
+key_bytes RequestExtraPoints = codes "Request.extraPoints"
 key_bytes ConstraintHandle = codes "Constraint.h.v"
 key_bytes ConstraintType = codes "Constraint.type"
 key_bytes ConstraintGroup = codes "Constraint.group.v"

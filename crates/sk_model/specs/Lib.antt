@@ -11,4 +11,7 @@ pub mod Typed
 pub mod Listings
 pub mod Models
 pub mod Changes
+pub mod Settable
+pub mod Checked
 pub mod WrittenLines
+pub mod TypingLaws

@@ -7,7 +7,9 @@ use Rattle.sk_types.specs.declared.group.GroupKind.{GroupKind}
 use Rattle.sk_types.specs.declared.group.GroupKind.TheVariants.{Space, Plane, Extrude, Translate, Linked}
 use Rattle.sk_types.specs.declared.entity.ParamValue.{ParamValue}
 use Rattle.sk_types.specs.declared.request.Request.{Request}
+use Rattle.sk_types.specs.declared.request_kind.TheConstants as request_kind
 use Rattle.sk_types.specs.declared.constraint.Constraint.{Constraint}
+use Rattle.sk_types.specs.Lookups.{value_handle}
 use Rattle.sk_records.specs.declared.kinds.Kind.TheVariants as kind
 use Rattle.sk_records.specs.Rows.{Row}
 use Rattle.sk_records.specs.Blocks.{Block, records}
@@ -31,9 +33,6 @@ pub record Typed (s : ℕ) : Type 0 where
 abbrev pub group_handle : {s : ℕ} → Group s → ℕ
 group_handle g = g.id.0
 
-abbrev pub param_handle : {s : ℕ} → ParamValue s → ℕ
-param_handle p = p.id.0
-
 abbrev pub request_handle : Request → ℕ
 request_handle r = r.id.0
 
@@ -44,7 +43,7 @@ abbrev pub groups_of : (s : ℕ) → List (List Row) → Result (List (Group s))
 groups_of s rs = all_of group_handle (group_of s) [] rs
 
 abbrev pub params_of : (s : ℕ) → List (List Row) → Result (List (ParamValue s)) ModelFault
-params_of s rs = all_of param_handle (param_of s) [] rs
+params_of s rs = all_of value_handle (param_of s) [] rs
 
 abbrev pub requests_of : List (List Row) → Result (List Request) ModelFault
 requests_of rs = all_of request_handle request_of [] rs
@@ -74,7 +73,7 @@ is_first_group g = g.id.0 == 1 && is_space_kind g.kind
 
 -- a workplane in group 1 with this number
 abbrev pub is_reference : ℕ → Request → Bool
-is_reference n r = r.id.0 == n && (r.kind == 100 && r.group.0 == 1)
+is_reference n r = r.id.0 == n && (r.kind == request_kind.WORKPLANE && r.group.0 == 1)
 
 -- the first of the numbers that no reference workplane has
 abbrev pub missing_of : List ℕ → List Request → Option ℕ

@@ -1,7 +1,7 @@
 -- Lines that a change writes.
 use Rattle.std.specs.Prelude.{◌≡◌, ℕ, ℤ, List, [], ◌∷◌, map, true, false, None, Ok}
 use Rattle.sk_text.specs.Lines.{lines_in, IsEnded}
-use Rattle.sk_digits.specs.Numerals.{padded}
+use Rattle.sk_num.specs.Numerals.{padded}
 use Rattle.sk_num.specs.Spelling.{handle_of, quantity_of, quantity_text}
 use Rattle.sk_types.specs.declared.group.RemapEntry.{RemapEntry}
 use Rattle.sk_records.specs.declared.kinds.Kind.TheVariants as kind

@@ -1,8 +1,7 @@
 // Constraints.
 
-ghost use Rattle.std.specs.Prelude.{◌≡◌, IfOk, false, unsigned_abs};
+ghost use Rattle.std.specs.Prelude.{◌≡◌, IfOk, false};
 ghost use Rattle.sk_num.specs.Scale.{IsScale};
-ghost use Rattle.sk_types.specs.Standings.{constraint_standing};
 ghost use Rattle.sk_model.specs.Chain.{seen_in};
 ghost use Rattle.sk_model.specs.Constraints.{constraint_of, has_bad_value};
 
@@ -11,7 +10,10 @@ use crate::fields::Fields;
 use crate::keys::Key;
 use indexmap::IndexSet;
 use sk_num::Grid;
-use sk_types::{Constraint, ConstraintId, EntityId, GroupId, Standing, constraint_standing};
+use sk_types::{
+    Constraint, ConstraintId, EntityId, GroupId, Standing, constraint_kind as kind,
+    constraint_standing,
+};
 
 /// A constraint, over the handles of earlier ones, or its first fault.
 #[tactic(auto, unfolding(crate::specs::Constraints::constraint_of))]
@@ -48,13 +50,13 @@ pub(crate) fn constraint_of<const S: u32>(
         Standing::LeftOut => return Err(ModelFault::LeftOut(id, Reason::Constraint)),
         Standing::Unknown => return Err(ModelFault::UnknownKind(id, kind)),
     }
-    let kind = constraint_number(kind);
-    if has_bad_value(kind, value, workplane) {
+    let number = kind.unsigned_abs() as u16;
+    if has_bad_value(number, value, workplane) {
         return Err(ModelFault::BadValue(id));
     }
     Ok(Constraint {
         id: ConstraintId(id),
-        kind,
+        kind: number,
         group: GroupId(group),
         workplane: EntityId(workplane),
         value,
@@ -66,28 +68,21 @@ pub(crate) fn constraint_of<const S: u32>(
     })
 }
 
-// The number of an accepted kind.
-#[tactic(auto, using(crate::proofs::AcceptedNumbers::constraint_most))]
-fn constraint_number(kind: i32) -> u16
-    requires { constraint_standing kind ≡ Standing.Accepted }
-    ensures { result ≡ unsigned_abs kind }
-{
-    kind.unsigned_abs() as u16
-}
-
 // Whether a constraint's dimension or workplane is refused.
 #[tactic(auto, unfolding(crate::specs::Constraints::has_bad_value))]
-fn has_bad_value<const S: u32>(kind: u16, value: Grid<S>, workplane: u32) -> bool
+fn has_bad_value<const S: u32>(number: u16, value: Grid<S>, workplane: u32) -> bool
     requires { IsScale S }
-    ensures { result ≡ has_bad_value S kind value.entry workplane }
+    ensures { result ≡ has_bad_value S number value.entry workplane }
 {
-    match kind {
-        30 | 51 | 90 => value.units() < 0,
-        120 => {
+    match number {
+        kind::POINT_POINT_DISTANCE | kind::LENGTH_RATIO | kind::DIAMETER => value.units() < 0,
+        kind::ANGLE => {
             let most = 360 * u128::from(Grid::<S>::one().units().unsigned_abs());
             u128::from(value.units().unsigned_abs()) > most
         }
-        61..=63 | 80 | 81 | 125 => workplane == 0,
+        kind::SYMMETRIC_HORIZONTAL | kind::SYMMETRIC_VERTICAL | kind::SYMMETRIC_LINE => workplane
+            == 0,
+        kind::HORIZONTAL | kind::VERTICAL | kind::CURVE_CURVE_TANGENT => workplane == 0,
         _ => false,
     }
 }

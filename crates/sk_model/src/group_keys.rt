@@ -3,6 +3,7 @@
 ghost use Rattle.std.specs.Prelude.{◌≡◌, OnOk, false};
 ghost use Rattle.sk_num.specs.Scale.{IsScale};
 ghost use Rattle.sk_model.specs.Chain.{seen_in};
+ghost use Rattle.sk_model.specs.Fields.{is_number};
 ghost use Rattle.sk_model.specs.Groups.{group_keys, accepted_kind, copies_of, kind_of, lacks_subtype, lacks_scale, is_two_sided, is_by_lines, whole_part};
 
 use crate::faults::{ModelFault, Reason};
@@ -10,7 +11,7 @@ use crate::fields::Fields;
 use crate::keys::Key;
 use indexmap::IndexSet;
 use sk_num::Grid;
-use sk_types::{GroupKind, Standing, group_standing};
+use sk_types::{GroupKind, Standing, group_kind as number, group_standing};
 
 /// The values of a group's record, other than its remap list and the name of its part.
 #[derive(Drop)]
@@ -90,11 +91,11 @@ impl<const S: u32> GroupKeys<S> {
     fn kind(&self) -> GroupKind
         ensures { result ≡ kind_of self.now.kind }
     {
-        match self.kind {
-            5000 => GroupKind::Space,
-            5001 => GroupKind::Plane,
-            5100 => GroupKind::Extrude,
-            5201 => GroupKind::Translate,
+        match u16::try_from(self.kind) {
+            Ok(number::DRAWING_IN_SPACE) => GroupKind::Space,
+            Ok(number::DRAWING_IN_WORKPLANE) => GroupKind::Plane,
+            Ok(number::EXTRUSION) => GroupKind::Extrude,
+            Ok(number::TRANSLATION) => GroupKind::Translate,
             _ => GroupKind::Linked,
         }
     }
@@ -132,13 +133,23 @@ impl<const S: u32> GroupKeys<S> {
         Ok(kind)
     }
 
+    fn is_subtype(&self, number: u16) -> bool
+        ensures { result ≡ is_number number self.now.subtype }
+    {
+        self.subtype == i32::from(number)
+    }
+
     fn lacks_subtype(&self, kind: GroupKind) -> bool
         ensures { result ≡ lacks_subtype kind self.now.subtype }
     {
         match kind {
             GroupKind::Space | GroupKind::Linked => false,
-            GroupKind::Plane => !matches!(self.subtype, 6000 | 6001),
-            GroupKind::Extrude | GroupKind::Translate => !matches!(self.subtype, 7000 | 7001),
+            GroupKind::Plane => {
+                !self.is_subtype(number::BY_ORIGIN) && !self.is_subtype(number::BY_LINE_SEGMENTS)
+            }
+            GroupKind::Extrude | GroupKind::Translate => {
+                !self.is_subtype(number::ONE_SIDED) && !self.is_subtype(number::TWO_SIDED)
+            }
         }
     }
 
@@ -172,7 +183,7 @@ impl<const S: u32> GroupKeys<S> {
         ensures { result ≡ is_two_sided kind self.now.subtype }
     {
         match kind {
-            GroupKind::Extrude | GroupKind::Translate => self.subtype == 7001,
+            GroupKind::Extrude | GroupKind::Translate => self.is_subtype(number::TWO_SIDED),
             _ => false,
         }
     }
@@ -182,7 +193,7 @@ impl<const S: u32> GroupKeys<S> {
         ensures { result ≡ is_by_lines kind self.now.subtype }
     {
         match kind {
-            GroupKind::Plane => self.subtype == 6001,
+            GroupKind::Plane => self.is_subtype(number::BY_LINE_SEGMENTS),
             _ => false,
         }
     }

@@ -19,6 +19,4 @@ mod writing;
 
 pub use faults::{ModelFault, Reason, What};
 pub use model::Model;
-
-#[cfg(test)]
-mod tests;
+pub use remap::GroupList;

@@ -2,9 +2,10 @@
 
 ghost use Rattle.std.specs.Prelude.{◌≡◌, IfOk, map};
 ghost use Rattle.sk_num.specs.Scale.{IsScale};
+ghost use Rattle.sk_types.specs.Lookups.{value_handle};
 ghost use Rattle.sk_records.specs.Blocks.{records};
 ghost use Rattle.sk_model.specs.Chain.{IsAnswer};
-ghost use Rattle.sk_model.specs.Typed.{groups_of, params_of, requests_of, constraints_of, group_handle, param_handle, request_handle, constraint_handle};
+ghost use Rattle.sk_model.specs.Typed.{groups_of, params_of, requests_of, constraints_of, group_handle, request_handle, constraint_handle};
 ghost use Rattle.sk_model.specs.Listings.{listed_of};
 
 use crate::constraints::constraint_of;
@@ -53,7 +54,7 @@ pub(crate) fn params_of<const S: u32>(
 ) -> Result<Listed<ParamValue<S>>, ModelFault>
     requires scale { IsScale S }
     ensures value { IsAnswer (listed_of result) (params_of S (records Kind.Param book.now)) }
-    ensures handles { IfOk result (λ l. l.handles.keys ≡ map param_handle l.items.items) }
+    ensures handles { IfOk result (λ l. l.handles.keys ≡ map value_handle l.items.items) }
 {
     let mut handles = IndexSet::new(alloc);
     let mut items = Vec::new(alloc);

@@ -1,17 +1,17 @@
 // Models: a book with its typed lists.
 
 ghost use Rattle.std.specs.Prelude.{◌≡◌, ◌≢◌, ◌++◌, ◌==◌, ℕ, OnOk, OnErr, IfOk, Ok, Some, if◌then◌else◌, map, true};
-ghost use Rattle.std.specs.Option.{option_copied};
 ghost use Rattle.sk_num.specs.Scale.{IsScale};
+ghost use Rattle.sk_types.specs.Lookups.{value_of};
 ghost use Rattle.sk_records.specs.Written.{bytes_of};
-ghost use Rattle.sk_records.specs.Written.{numbered};
 ghost use Rattle.sk_model.specs.Chain.{IsAnswer, seen_in};
-ghost use Rattle.sk_model.specs.Remap.{remap_of};
 ghost use Rattle.sk_model.specs.Typed.{typed, group_handle};
-ghost use Rattle.sk_model.specs.Changes.{param_set, with_param, remap_set, with_remap, numbers_of};
-ghost use Rattle.sk_model.specs.Models.{lists_of, IsTyped, value_of};
+ghost use Rattle.sk_model.specs.Changes.{param_set, with_param, remap_set, with_remap};
+ghost use Rattle.sk_model.specs.Settable.{IsRemapList};
+ghost use Rattle.sk_model.specs.Checked.{AreChecked};
+ghost use Rattle.sk_model.specs.Models.{lists_of, IsTyped};
 
-use crate::changes::{put_param, set_list};
+use crate::changes::{put_list, put_param};
 use crate::copying::copy_groups;
 use crate::faults::ModelFault;
 use crate::listed::{Listed, constraints_of, groups_of, params_of, requests_of};
@@ -97,10 +97,11 @@ impl<const S: u32> Model<S> {
     }
 
     /// The book that the model stands for. The i-th group, parameter, request or constraint is the record of its
-    /// kind with place i.
+    /// kind with place i. Handles are in range, each stands once, and every list and value has passed typing.
     pub fn book(&self) -> &Book
         ensures blocks { result.now ≡ self.now.blocks }
         ensures typed { IsTyped self.now }
+        ensures checked { AreChecked self.now.lists }
     {
         &self.book
     }
@@ -173,23 +174,14 @@ impl<const S: u32> Model<S> {
     /// Sets the remap list of a group: in the place of the first list of its record, whose further lists go. At an
     /// `Err` the model is as it was.
     pub fn set_remap(&mut self, g: GroupId, list: &[RemapEntry]) -> Result<(), AllocError>
-        requires scale { IsScale S }
         requires exists { seen_in g.0 (map group_handle self.old.lists.groups) ≡ true }
-        requires list { remap_of g.0 (map numbers_of list.now) ≡ Ok list.now }
+        requires list { IsRemapList g.0 list.now }
         ensures blocks { OnOk result (self.new.blocks ≡ remap_set g.0 list.now self.old.lists.groups self.old.blocks) }
         ensures lists { OnOk result (self.new.lists ≡ record self.old.lists { groups = with_remap g.0 list.now self.old.lists.groups }) }
         ensures err { OnErr result (self.new ≡ self.old) }
     {
         let place = self.group_handles.get_index_of(&g.0).unwrap();
-        set_list(&mut self.book, &mut self.groups, place, g.0, list)
-    }
-
-    /// What is written is typed again as the same model: the lines then have other numbers, which show in
-    /// `NumberAt` alone.
-    pub fn law_typed_again(&self)
-        ensures { typed S (numbered 1 self.now.blocks) ≡ Ok self.now.lists }
-    {
-        let _book = &self.book;
+        put_list(&mut self.book, &mut self.groups, place, g.0, list)
     }
 
     /// Appends the text. At an `Err` nothing is appended.

@@ -9,10 +9,19 @@ ghost use Rattle.sk_model.specs.Lists.{items_of};
 
 use crate::faults::ModelFault;
 use indexmap::IndexSet;
-use sk_num::{read_handle, read_whole};
+use sk_num::{Items, read_handle, read_whole};
 use sk_records::{MapLine, MapLines};
-use sk_types::{EntityId, RemapEntry};
+use sk_types::{EntityId, GroupId, RemapEntry};
 use std::alloc::Global;
+
+/// A group, and a remap list for it.
+#[derive(Drop)]
+pub struct GroupList {
+    /// The group.
+    pub group: GroupId,
+    /// The entries, in the order of the list.
+    pub entries: Items<RemapEntry>,
+}
 
 /// The three numbers of a line of a remap list.
 #[derive(Clone, Copy)]

@@ -1,7 +1,6 @@
 // Requests.
 
-ghost use Rattle.std.specs.Prelude.{◌≡◌, IfOk, false, ◌≤◌, unsigned_abs};
-ghost use Rattle.sk_types.specs.Standings.{request_standing};
+ghost use Rattle.std.specs.Prelude.{◌≡◌, IfOk, false};
 ghost use Rattle.sk_model.specs.Chain.{seen_in};
 ghost use Rattle.sk_model.specs.Requests.{request_of};
 
@@ -9,7 +8,10 @@ use crate::faults::{ModelFault, Reason};
 use crate::fields::Fields;
 use crate::keys::Key;
 use indexmap::IndexSet;
-use sk_types::{EntityId, GroupId, Request, RequestId, Standing, request_standing};
+use sk_types::{EntityId, GroupId, Request, RequestId, Standing, request_kind, request_standing};
+
+// A cubic has at most so many points beyond its four.
+const MOST_EXTRA: i32 = 8;
 
 /// A request, over the handles of earlier ones, or its first fault.
 #[tactic(auto, unfolding(crate::specs::Requests::request_of))]
@@ -22,6 +24,7 @@ pub(crate) fn request_of(seen: &IndexSet<u32>, fields: &Fields<'_>) -> Result<Re
     let workplane = fields.handle(Key::RequestWorkplane)?;
     let group = fields.handle(Key::RequestGroup)?;
     let construction = fields.flag(Key::RequestConstruction)?;
+    let extra = fields.whole(Key::RequestExtraPoints)?;
     if id == 0 || id > 32767 {
         return Err(ModelFault::BadValue(id));
     }
@@ -33,27 +36,21 @@ pub(crate) fn request_of(seen: &IndexSet<u32>, fields: &Fields<'_>) -> Result<Re
         Standing::LeftOut => return Err(ModelFault::LeftOut(id, Reason::Request)),
         Standing::Unknown => return Err(ModelFault::UnknownKind(id, kind)),
     }
-    if kind == 500 && workplane == 0 {
+    if kind == i32::from(request_kind::ARC) && workplane == 0 {
         return Err(ModelFault::LeftOut(id, Reason::SpaceArc));
     }
-    if kind == 100 && workplane != 0 {
+    if kind == i32::from(request_kind::WORKPLANE) && workplane != 0 {
         return Err(ModelFault::LeftOut(id, Reason::NestedWorkplane));
+    }
+    if extra < 0 || extra > MOST_EXTRA {
+        return Err(ModelFault::BadValue(id));
     }
     Ok(Request {
         id: RequestId(id),
-        kind: request_number(kind),
+        kind: kind.unsigned_abs() as u16,
         group: GroupId(group),
         workplane: EntityId(workplane),
         construction,
-        extra: 0,
+        extra: extra.unsigned_abs() as u8,
     })
-}
-
-// The number of an accepted kind.
-#[tactic(auto, using(crate::proofs::AcceptedNumbers::request_most))]
-fn request_number(kind: i32) -> u16
-    requires { request_standing kind ≡ Standing.Accepted }
-    ensures { result ≡ unsigned_abs kind }
-{
-    kind.unsigned_abs() as u16
 }

@@ -5,7 +5,7 @@ ghost use Rattle.sk_model.specs.Typed.{whole_fault, missing_of, stray_request, s
 ghost use Rattle.std.specs.List.{list_any};
 
 use crate::faults::{ModelFault, Reason, What};
-use sk_types::{Constraint, Group, GroupKind, Request};
+use sk_types::{Constraint, Group, GroupKind, Request, request_kind};
 
 // The most groups, and the most that are linked.
 const GROUPS: usize = 1000;
@@ -60,7 +60,10 @@ fn has_reference(requests: &[Request], number: u32) -> bool
     ensures { result ≡ list_any (is_reference number) requests.now }
 {
     for request in requests {
-        if request.id.0 == number && request.kind == 100 && request.group.0 == 1 {
+        if request.id.0 == number
+            && request.kind == request_kind::WORKPLANE
+            && request.group.0 == 1
+        {
             return true;
         }
     }

@@ -1,13 +1,16 @@
 // The lines that changes write.
 
-ghost use Rattle.std.specs.Prelude.{◌≡◌, ◌++◌, OnOk, IfOk};
+ghost use Rattle.std.specs.Prelude.{◌≡◌, ◌++◌, ◌∷◌, [], OnOk, IfOk, Ok};
 ghost use Rattle.std.specs.Fmt.{decimal};
 ghost use Rattle.sk_num.specs.Scale.{IsScale};
+ghost use Rattle.sk_num.specs.Spelling.{quantity_of, quantity_text};
 ghost use Rattle.sk_text.specs.Lines.{line_bytes};
 ghost use Rattle.sk_records.specs.Rows.{value_body};
+ghost use Rattle.sk_records.specs.Blocks.{with_tails};
+ghost use Rattle.sk_records.specs.Written.{bytes_of};
 ghost use Rattle.sk_model.specs.Keys.{key_bytes};
-ghost use Rattle.sk_model.specs.Changes.{fed_line, entry_text};
-ghost use Rattle.sk_model.specs.WrittenLines.{IsParamText, IsEntryText, IsListText};
+ghost use Rattle.sk_model.specs.Changes.{fed_line, entry_text, param_record};
+ghost use Rattle.sk_model.specs.WrittenLines.{IsEntryText, IsListText};
 
 use crate::keys::Key;
 use itoa::Buffer;
@@ -26,25 +29,21 @@ fn push_value(out: &mut Vec<u8>, key: Key, value: &[u8]) -> Result<(), AllocErro
     Ok(())
 }
 
-/// The record that is added for a parameter.
-pub(crate) fn param_text<const S: u32>(
-    alloc: Global,
+/// Appends the record that is added for a parameter, and its tail.
+pub(crate) fn push_param<const S: u32>(
+    out: &mut Vec<u8>,
     id: u32,
     value: Grid<S>,
-) -> Result<Vec<u8>, AllocError>
+) -> Result<(), AllocError>
     requires { IsScale S }
-    ensures { IfOk result (λ lines. IsParamText S id value.entry lines.items) }
+    ensures lines { OnOk result (out.new.items ≡ out.old.items ++ bytes_of (with_tails (param_record S id value.entry ∷ []))) }
+    ensures reads { OnOk result (quantity_of S (quantity_text S value.entry) ≡ Ok value.entry) }
 {
-    let mut lines = Vec::new(alloc);
-    push_value(&mut lines, Key::ParamHandle, &handle_text(id))?;
+    push_value(out, Key::ParamHandle, &handle_text(id))?;
     let text = quantity_text(value);
-    push_value(
-        &mut lines,
-        Key::ParamValue,
-        &text.bytes[..usize::from(text.len)],
-    )?;
-    lines.extend_from_slice(b"AddParam\n")?;
-    Ok(lines)
+    push_value(out, Key::ParamValue, &text.bytes[..usize::from(text.len)])?;
+    out.extend_from_slice(b"AddParam\n\n")?;
+    Ok(())
 }
 
 // Appends a number in decimal.

@@ -1,4 +1,4 @@
-use Rattle.sk_model.proofs.ParamTexts.{value_key, quantity_value}
+use Rattle.sk_model.specs.TypingLaws.ParamTexts.{value_key, quantity_value}
 use Rattle.sk_model.proofs.Places.{value_placed}
 use Rattle.sk_model.proofs.changes.set_value.Goals as goal
 

@@ -1,4 +1,5 @@
-use Rattle.sk_model.proofs.ListTexts.{entry_is, entry_written}
+use Rattle.sk_model.specs.TypingLaws.ListTexts.{entry_is}
+use Rattle.sk_model.proofs.ListWritten.{entry_written}
 use Rattle.sk_model.proofs.writing.push_entry.Goals as goal
 
 pub returns : goal.returns

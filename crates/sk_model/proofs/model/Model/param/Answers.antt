@@ -1,5 +1,5 @@
 use Rattle.std.proofs.Common.{sym, ◌∙◌}
-use Rattle.sk_model.proofs.Lookups.{value_found, value_missing}
+use Rattle.sk_model.specs.TypingLaws.Lookups.{value_found, value_missing}
 use Rattle.sk_model.proofs.model.Model.param.Goals as goal
 
 pub returns-in_err-place : goal.returns-in_err-place

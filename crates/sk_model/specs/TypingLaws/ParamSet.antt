@@ -2,20 +2,20 @@
 use Rattle.std.proofs.Common.{◌≡◌, ◌⊎◌, inl, inr, ℕ, List, [], ◌∷◌, ◌++◌, map, Bool, true, false, cond, nat_eq, Option, Some, None, Ok, refl, sym, ap, ◌∙◌, get_or}
 use Rattle.std.specs.Prelude.{ℤ, pos, ◌==◌, if◌then◌else◌}
 use Rattle.std.specs.List.{position, position_or_len}
-use Rattle.std.proofs.lemmas.Bool.{eqb-true, eq-eqb}
+use Rattle.std.proofs.lemmas.Bool.{eqb-true, eq-eqb, cases_Bool}
 use Rattle.std.specs.Str.{bytes_eq}
 use Rattle.std.proofs.lemmas.Bool.Decides.{Decides-int_eq}
 use Rattle.sk_text.specs.Keys.{parts_at_equals}
-use Rattle.sk_digits.specs.Numerals.{padded}
+use Rattle.sk_num.specs.Numerals.{padded}
 use Rattle.sk_num.specs.Spelling.{handle_of, quantity_of, quantity_text}
 use Rattle.sk_types.specs.declared.entity.ParamValue.{ParamValue}
+use Rattle.sk_types.specs.Lookups.{value_handle, value_of}
 use Rattle.sk_records.specs.declared.kinds.Kind.{Kind}
 use Rattle.sk_records.specs.declared.kinds.Kind.TheVariants as kind
 use Rattle.sk_records.specs.Kinds.{same_kind}
-use Rattle.sk_records.specs.Rows.{Row, last_value, with_value}
+use Rattle.sk_records.specs.Rows.{Row, last_value, value_in, with_value}
 use Rattle.sk_records.specs.Blocks.{Block, records, changed_at}
-use Rattle.sk_records.proofs.RecordsAfter.{changed_same, changed_other, added_same, added_other}
-use Rattle.sk_records.proofs.ValuesAfter.{value_set, value_other}
+use Rattle.sk_records.specs.Laws.{records_law, values_law, value_row}
 use Rattle.sk_model.specs.declared.faults.ModelFault.TheVariants.{BadValue, DuplicateHandle}
 use Rattle.sk_model.specs.declared.keys.Key.{Key}
 use Rattle.sk_model.specs.declared.keys.Key.TheVariants as key
@@ -23,17 +23,15 @@ use Rattle.sk_model.specs.Keys.{key_bytes}
 use Rattle.sk_model.specs.Chain.{seen_in}
 use Rattle.sk_model.specs.Fields.{handle_under, quantity_under}
 use Rattle.sk_model.specs.Params.{param_of}
-use Rattle.sk_model.specs.Typed.{Typed, typed, params_of, param_handle}
-use Rattle.sk_model.specs.Models.{value_of}
+use Rattle.sk_model.specs.Typed.{Typed, typed, params_of}
 use Rattle.sk_model.specs.Changes.{with_first, with_param, param_record, is_value, value_put, param_set}
-use Rattle.sk_model.proofs.AcceptedNumbers.{two}
-use Rattle.sk_model.proofs.Lifted.{then_parts, refused_passed, ok_inj, read_alike}
-use Rattle.sk_model.proofs.AllOf.{all_set, all_added}
-use Rattle.sk_model.proofs.TypedParts.{Parts, parts_of, typed_parts}
-use Rattle.sk_model.proofs.Lookups.{value_found, value_missing}
+use Rattle.sk_model.specs.TypingLaws.Chains.{then_parts, refused_passed, ok_inj, read_alike}
+use Rattle.sk_model.specs.TypingLaws.ListSteps.{all_set, all_added}
+use Rattle.sk_model.specs.TypingLaws.TypedParts.{Parts, parts_of, typed_parts}
+use Rattle.sk_model.specs.TypingLaws.Lookups.{place_is, value_found, value_missing}
 
 apart : (q a b : ℕ) → nat_eq q a ≡ true → nat_eq b a ≡ false → nat_eq q b ≡ false
-apart q a b h e = elim (two (nat_eq q b)) [
+apart q a b h e = elim (cases_Bool (nat_eq q b)) [
   | inl g ↦ (let same : b ≡ a = sym (eqb-true q b g) ∙ eqb-true q a h in let f : nat_eq b a ≡ true = eq-eqb b a same in cc (f, e))
   | inr g ↦ g
 ]
@@ -45,9 +43,9 @@ twice false x y z = refl
 -- the law: it has the value, and the others have theirs
 pub value_after : {s : ℕ} (id q : ℕ) (v : ℤ) (ps : List (ParamValue s)) → value_of q (with_param id v ps) ≡ (if q == id then Some v else value_of q ps)
 value_after id q v [] = refl
-value_after id q v (p ∷ ps) = elim (two (nat_eq id p.id.0)) [
+value_after id q v (p ∷ ps) = elim (cases_Bool (nat_eq id p.id.0)) [
   | inl e ↦ rw (e, eqb-true id p.id.0 e) (twice (nat_eq q p.id.0) (Some v) (Some p.value) (value_of q ps))
-  | inr e ↦ elim (two (nat_eq q p.id.0)) [
+  | inr e ↦ elim (cases_Bool (nat_eq q p.id.0)) [
     | inl h ↦ rw (e, h, apart q p.id.0 id h e) refl
     | inr h ↦ rw (e, h) (value_after id q v ps)
   ]
@@ -56,9 +54,9 @@ value_after id q v (p ∷ ps) = elim (two (nat_eq id p.id.0)) [
 -- ---- the list
 
 -- a parameter that stands is changed in its place
-pub stands_first : {s : ℕ} (id : ℕ) (v w : ℤ) (ps : List (ParamValue s)) → value_of id ps ≡ Some w → with_first param_handle id (λ (p : ParamValue s). record p { value = v }) ps ≡ with_param id v ps
+pub stands_first : {s : ℕ} (id : ℕ) (v w : ℤ) (ps : List (ParamValue s)) → value_of id ps ≡ Some w → with_first value_handle id (λ (p : ParamValue s). record p { value = v }) ps ≡ with_param id v ps
 stands_first id v w [] e = cc
-stands_first id v w (p ∷ ps) e = elim (two (nat_eq id p.id.0)) [
+stands_first id v w (p ∷ ps) e = elim (cases_Bool (nat_eq id p.id.0)) [
   | inl h ↦ rw h refl
   | inr h ↦ rw h (ap (λ l. p ∷ l) (stands_first id v w ps (rw h at e)))
 ]
@@ -66,7 +64,7 @@ stands_first id v w (p ∷ ps) e = elim (two (nat_eq id p.id.0)) [
 -- the value that stands already
 pub stands_same : {s : ℕ} (id : ℕ) (v : ℤ) (ps : List (ParamValue s)) → value_of id ps ≡ Some v → with_param id v ps ≡ ps
 stands_same id v [] e = cc
-stands_same {s} id v (p ∷ ps) e = elim (two (nat_eq id p.id.0)) [
+stands_same {s} id v (p ∷ ps) e = elim (cases_Bool (nat_eq id p.id.0)) [
   | inl h ↦ (let same : p.value ≡ v = some_inj (rw h at e) in rw h (ap (λ (x : ℤ). record p { value = x } ∷ ps) (sym same)))
   | inr h ↦ rw h (ap (λ l. p ∷ l) (stands_same id v ps (rw h at e)))
 ]
@@ -76,22 +74,22 @@ stands_same {s} id v (p ∷ ps) e = elim (two (nat_eq id p.id.0)) [
 
 pub new_at_end : {s : ℕ} (id : ℕ) (v : ℤ) (ps : List (ParamValue s)) → value_of id ps ≡ None → with_param id v ps ≡ ps ++ (record { id = record { 0 = id }; value = v } ∷ [])
 new_at_end id v [] e = refl
-new_at_end id v (p ∷ ps) e = elim (two (nat_eq id p.id.0)) [
+new_at_end id v (p ∷ ps) e = elim (cases_Bool (nat_eq id p.id.0)) [
   | inl h ↦ (let g = rw h at e in cc g)
   | inr h ↦ rw h (ap (λ l. p ∷ l) (new_at_end id v ps (rw h at e)))
 ]
 
-pub new_unseen : {s : ℕ} (id : ℕ) (ps : List (ParamValue s)) → value_of id ps ≡ None → seen_in id (map param_handle ps) ≡ false
+pub new_unseen : {s : ℕ} (id : ℕ) (ps : List (ParamValue s)) → value_of id ps ≡ None → seen_in id (map value_handle ps) ≡ false
 new_unseen id [] e = refl
-new_unseen id (p ∷ ps) e = elim (two (nat_eq id p.id.0)) [
+new_unseen id (p ∷ ps) e = elim (cases_Bool (nat_eq id p.id.0)) [
   | inl h ↦ (let g = rw h at e in cc g)
   | inr h ↦ rw h (new_unseen id ps (rw h at e))
 ]
 
 -- handles stay
-pub handles_same : {s : ℕ} (id : ℕ) (v w : ℤ) (ps : List (ParamValue s)) → value_of id ps ≡ Some w → map param_handle (with_param id v ps) ≡ map param_handle ps
+pub handles_same : {s : ℕ} (id : ℕ) (v w : ℤ) (ps : List (ParamValue s)) → value_of id ps ≡ Some w → map value_handle (with_param id v ps) ≡ map value_handle ps
 handles_same id v w [] e = cc
-handles_same id v w (p ∷ ps) e = elim (two (nat_eq id p.id.0)) [
+handles_same id v w (p ∷ ps) e = elim (cases_Bool (nat_eq id p.id.0)) [
   | inl h ↦ rw h refl
   | inr h ↦ rw h (ap (λ l. p.id.0 ∷ l) (handles_same id v w ps (rw h at e)))
 ]
@@ -122,6 +120,10 @@ keys_differ : bytes_eq (key_bytes key.ParamValue) (key_bytes key.ParamHandle) �
 unfolding key_bytes
 keys_differ = refl
 
+keys_differ' : bytes_eq (key_bytes key.ParamHandle) (key_bytes key.ParamValue) ≡ false
+unfolding key_bytes
+keys_differ' = refl
+
 -- a record whose value is set
 param_valued : (s : ℕ) (text : List ℕ) (v : ℤ) → quantity_of s text ≡ Ok v → (seen : List ℕ) (rows : List Row) (p : ParamValue s) → param_of s seen rows ≡ Ok p →
     param_of s seen (with_value (key_bytes key.ParamValue) text rows) ≡ Ok (record p { value = v })
@@ -132,9 +134,16 @@ param_valued s text v r seen rows p e =
     then_parts (quantity_under s (pos 0) key.ParamValue rows) _ p e1 (λ z ez e2.
     (let a = refused_passed (id == 0) (BadValue id) _ p e2 in
     let b = refused_passed (seen_in id seen) (DuplicateHandle id) _ p a.1 in
-    let h : handle_under key.ParamHandle other ≡ Ok id = handle_kept key.ParamHandle rows other id (value_other (key_bytes key.ParamValue) (key_bytes key.ParamHandle) text rows value_keyless keys_differ) eid in
-    let q : quantity_under s (pos 0) key.ParamValue other ≡ Ok v = quantity_set s key.ParamValue other text v (value_set (key_bytes key.ParamValue) text rows value_keyless) r in
+    let h : handle_under key.ParamHandle other ≡ Ok id = handle_kept key.ParamHandle rows other id (values_law.value_other (key_bytes key.ParamValue) (key_bytes key.ParamHandle) text rows value_keyless keys_differ) eid in
+    let q : quantity_under s (pos 0) key.ParamValue other ≡ Ok v = quantity_set s key.ParamValue other text v (values_law.value_set (key_bytes key.ParamValue) text rows value_keyless) r in
     rw (h, q, a.0, b.0) (ap (λ (x : ParamValue s). Ok (record x { value = v })) (ok_inj b.1)))))
+
+-- the other key's line has no value for this one
+handle_apart : (text : List ℕ) → value_in (key_bytes key.ParamValue) (value_row (key_bytes key.ParamHandle, text)) ≡ None
+handle_apart text = values_law.value_other (key_bytes key.ParamHandle) (key_bytes key.ParamValue) text [] handle_keyless keys_differ'
+
+rows_are : (s id : ℕ) (v : ℤ) → (param_record s id v).rows ≡ with_value (key_bytes key.ParamValue) (quantity_text s v) (with_value (key_bytes key.ParamHandle) (padded 16 8 id) [])
+rows_are s id v = rw (handle_apart (padded 16 8 id)) refl
 
 -- a record that is added
 param_new : (s id : ℕ) (v : ℤ) (seen : List ℕ) → nat_eq id 0 ≡ false → handle_of (padded 16 8 id) ≡ Ok id → quantity_of s (quantity_text s v) ≡ Ok v → seen_in id seen ≡ false →
@@ -144,15 +153,11 @@ param_new s id v seen some h q unseen =
     let first : List Row = with_value (key_bytes key.ParamHandle) (padded 16 8 id) [] in
     let rows : List Row = with_value (key_bytes key.ParamValue) (quantity_text s v) first in
     let eh : handle_under key.ParamHandle rows ≡ Ok id = handle_set key.ParamHandle rows (padded 16 8 id) id
-    (value_other (key_bytes key.ParamValue) (key_bytes key.ParamHandle) (quantity_text s v) first value_keyless keys_differ ∙ value_set (key_bytes key.ParamHandle) (padded 16 8 id) [] handle_keyless) h in
-    let eq : quantity_under s (pos 0) key.ParamValue rows ≡ Ok v = quantity_set s key.ParamValue rows (quantity_text s v) v (value_set (key_bytes key.ParamValue) (quantity_text s v) first value_keyless) q in
-    rw (eh, eq, some, unseen) refl
+    (values_law.value_other (key_bytes key.ParamValue) (key_bytes key.ParamHandle) (quantity_text s v) first value_keyless keys_differ ∙ values_law.value_set (key_bytes key.ParamHandle) (padded 16 8 id) [] handle_keyless) h in
+    let eq : quantity_under s (pos 0) key.ParamValue rows ≡ Ok v = quantity_set s key.ParamValue rows (quantity_text s v) v (values_law.value_set (key_bytes key.ParamValue) (quantity_text s v) first value_keyless) q in
+    rw (rows_are s id v) (rw (eh, eq, some, unseen) refl)
 
 -- ---- where it is put
-
-pub place_is : (t : Bool) (n i : ℕ) → cond t (Some n) None ≡ Some i → n ≡ i
-place_is true n i e = cc
-place_is false n i e = cc
 
 module _ (s id : ℕ) (v : ℤ) (bs : List Block) (l : Typed s) (is : Parts s bs l) (q : quantity_of s (quantity_text s v) ≡ Ok v) where
   abbrev after_put : List Block → Type 0
@@ -167,22 +172,22 @@ module _ (s id : ℕ) (v : ℤ) (bs : List Block) (l : Typed s) (is : Parts s bs
     sound = is.sound;
   })
 
-  set_in_place : (i : ℕ) (w : ℤ) → position (nat_eq id) (map param_handle l.params) ≡ Some i → value_of id l.params ≡ Some w → after_put (value_put s id v (Some i) bs)
+  set_in_place : (i : ℕ) (w : ℤ) → position (nat_eq id) (map value_handle l.params) ≡ Some i → value_of id l.params ≡ Some w → after_put (value_put s id v (Some i) bs)
   set_in_place i w at stands =
       let f : List Row → List Row = with_value (key_bytes key.ParamValue) (quantity_text s v) in
-      let place : position_or_len (nat_eq id) (map param_handle l.params) ≡ i = place_is _ _ i at in
-      put_typed (value_put s id v (Some i) bs) (λ j apart. changed_other kind.Param j apart i f bs)
-      (ap (params_of s) (changed_same kind.Param i f bs)
+      let place : position_or_len (nat_eq id) (map value_handle l.params) ≡ i = place_is _ _ i at in
+      put_typed (value_put s id v (Some i) bs) (λ j apart. records_law.changed_other kind.Param j apart i f bs)
+      (ap (params_of s) (records_law.changed_same kind.Param i f bs)
       ∙ ap (λ (k : ℕ). params_of s (changed_at f k (records kind.Param bs))) (sym place)
-      ∙ all_set param_handle (param_of s) id f (λ (p : ParamValue s). record p { value = v }) (λ seen r p here e. param_valued s (quantity_text s v) v q seen r p e) (λ p. refl) [] (records kind.Param bs) l.params is.params
+      ∙ all_set value_handle (param_of s) id f (λ (p : ParamValue s). record p { value = v }) (λ seen r p here e. param_valued s (quantity_text s v) v q seen r p e) (λ p. refl) [] (records kind.Param bs) l.params is.params
       ∙ ap Ok (stands_first id v w l.params stands))
 
   added_last : value_of id l.params ≡ None → nat_eq id 0 ≡ false → handle_of (padded 16 8 id) ≡ Ok id → after_put (value_put s id v None bs)
   added_last none some h =
-      put_typed (value_put s id v None bs) (λ j apart. added_other kind.Param j apart (param_record s id v ∷ []) bs (refl, tt))
-      (ap (params_of s) (added_same kind.Param (param_record s id v ∷ []) bs (refl, tt))
-      ∙ all_added param_handle (param_of s) (param_record s id v).rows (record { id = record { 0 = id }; value = v }) [] (records kind.Param bs) l.params is.params
-      (param_new s id v (map param_handle l.params) some h q (new_unseen id l.params none))
+      put_typed (value_put s id v None bs) (λ j apart. records_law.added_other kind.Param j apart (param_record s id v ∷ []) bs (refl, tt))
+      (ap (params_of s) (records_law.added_same kind.Param (param_record s id v ∷ []) bs (refl, tt))
+      ∙ all_added value_handle (param_of s) (param_record s id v).rows (record { id = record { 0 = id }; value = v }) [] (records kind.Param bs) l.params is.params
+      (param_new s id v (map value_handle l.params) some h q (new_unseen id l.params none))
       ∙ ap Ok (sym (new_at_end id v l.params none)))
 
 no_value : (s : ℕ) → ParamValue s
@@ -192,16 +197,16 @@ no_value s = record { id = record { 0 = 0 }; value = pos 0 }
 pub set_typed : (s id : ℕ) (v : ℤ) (bs : List Block) (l : Typed s) → typed s bs ≡ Ok l → nat_eq id 0 ≡ false → handle_of (padded 16 8 id) ≡ Ok id → quantity_of s (quantity_text s v) ≡ Ok v →
     typed s (param_set id v l.params bs) ≡ Ok (record l { params = with_param id v l.params })
 unfolding param_set
-set_typed s id v bs l e some h q = by_value (two (is_value v (value_of id l.params)))
+set_typed s id v bs l e some h q = by_value (cases_Bool (is_value v (value_of id l.params)))
   where
     same_value : (o : Option ℤ) → is_value v o ≡ true → o ≡ Some v
     same_value None t = cc
     same_value (Some w) t = ap Some ((Decides-int_eq w v).0 t)
 
-    put : (at : Option ℕ) → position (nat_eq id) (map param_handle l.params) ≡ at → typed s (value_put s id v at bs) ≡ Ok (record l { params = with_param id v l.params })
-    put None at = added_last s id v bs l (parts_of s bs l e) q (sym (value_missing id l.params (map param_handle l.params) refl at)) some h
-    put (Some i) at = set_in_place s id v bs l (parts_of s bs l e) q i (get_or l.params i (no_value s)).value at (sym (value_found id i (no_value s) l.params (map param_handle l.params) refl at))
+    put : (at : Option ℕ) → position (nat_eq id) (map value_handle l.params) ≡ at → typed s (value_put s id v at bs) ≡ Ok (record l { params = with_param id v l.params })
+    put None at = added_last s id v bs l (parts_of s bs l e) q (sym (value_missing id l.params (map value_handle l.params) refl at)) some h
+    put (Some i) at = set_in_place s id v bs l (parts_of s bs l e) q i (get_or l.params i (no_value s)).value at (sym (value_found id i (no_value s) l.params (map value_handle l.params) refl at))
 
-    by_value : (is_value v (value_of id l.params) ≡ true) ⊎ (is_value v (value_of id l.params) ≡ false) → typed s (cond (is_value v (value_of id l.params)) bs (value_put s id v (position (nat_eq id) (map param_handle l.params)) bs)) ≡ Ok (record l { params = with_param id v l.params })
+    by_value : (is_value v (value_of id l.params) ≡ true) ⊎ (is_value v (value_of id l.params) ≡ false) → typed s (cond (is_value v (value_of id l.params)) bs (value_put s id v (position (nat_eq id) (map value_handle l.params)) bs)) ≡ Ok (record l { params = with_param id v l.params })
     by_value (inl t) = rw (t, stands_same id v l.params (same_value (value_of id l.params) t)) e
-    by_value (inr f) = rw f (put (position (nat_eq id) (map param_handle l.params)) refl)
+    by_value (inr f) = rw f (put (position (nat_eq id) (map value_handle l.params)) refl)

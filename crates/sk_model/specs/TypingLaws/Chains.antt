@@ -6,15 +6,6 @@ use Rattle.sk_model.specs.declared.faults.ModelFault.{ModelFault}
 use Rattle.sk_model.specs.Chain.{then_of, refused}
 use Rattle.sk_model.specs.Fields.{read_at, value_as, read_under}
 
--- what the first answers, the second answers, up to g
-abbrev pub Lifts : {T U : Type 0} → (T → U) → Result T ModelFault → Result U ModelFault → Type 0
-Lifts {T} g m n = (x : T) → m ≡ Ok x → n ≡ Ok (g x)
-
-pub then_lifts : {T U V W : Type 0} (g : U → W) (h : T → V) (m : Result T ModelFault) (n : Result V ModelFault) (f : T → Result U ModelFault) (k : V → Result W ModelFault) →
-    Lifts h m n → ((x : T) → m ≡ Ok x → Lifts g (f x) (k (h x))) → Lifts g (then_of m f) (then_of n k)
-then_lifts g h (Ok x) n f k a b y e = rw (a x refl) (b x refl y e)
-then_lifts g h (Err z) n f k a b y e = cc
-
 pub then_same : {T U : Type 0} (m n : Result T ModelFault) (f k : T → Result U ModelFault) (y : U) →
     ((x : T) → m ≡ Ok x → n ≡ Ok x) → ((x : T) → f x ≡ Ok y → k x ≡ Ok y) → then_of m f ≡ Ok y → then_of n k ≡ Ok y
 then_same (Ok x) n f k y a b e = rw (a x refl) (b x e)

@@ -20,7 +20,7 @@ use Rattle.sk_types.specs.declared.group.RemapEntry.{RemapEntry}
 use Rattle.sk_records.specs.MapRows.{EntryLine, entry_lines}
 use Rattle.sk_model.specs.Groups.{group_keys, group_of, group_with, accepted_kind, copies_of, part_of, part_name}
 use Rattle.sk_model.specs.Remap.{entry_numbers, all_numbers, remap_of, first_word, after_word}
-use Rattle.sk_model.proofs.Lifted.{then_same, then_parts, at_alike, ok_inj, read_alike}
+use Rattle.sk_model.specs.TypingLaws.Chains.{then_same, then_parts, at_alike, ok_inj, read_alike}
 
 -- the same value under every key that is read
 abbrev pub AreAlike : List Row → List Row → Type 0
@@ -60,7 +60,8 @@ module _ (rows other : List Row) (same : AreAlike rows other) where
       then_same _ _ _ _ r (whole_alike key.RequestType) (λ kind.
       then_same _ _ _ _ r (handle_alike key.RequestWorkplane) (λ workplane.
       then_same _ _ _ _ r (handle_alike key.RequestGroup) (λ group.
-      then_same _ _ _ _ r (flag_alike key.RequestConstruction) (λ construction f. f))))) e
+      then_same _ _ _ _ r (flag_alike key.RequestConstruction) (λ construction.
+      then_same _ _ _ _ r (whole_alike key.RequestExtraPoints) (λ extra f. f)))))) e
 
   pub constraint_alike : (s : ℕ) (seen : List ℕ) (c : Constraint s) → constraint_of s seen rows ≡ Ok c → constraint_of s seen other ≡ Ok c
   unfolding constraint_of

@@ -1,16 +1,15 @@
 -- Texts with no line end in them.
 use Rattle.std.proofs.Common.{◌≡◌, inl, inr, ℕ, List, [], ◌∷◌, ◌++◌, Bool, true, false, nat_eq, Option, Some, None, Ok, refl}
 use Rattle.std.specs.Prelude.{ℤ, option_map, option_and_then}
-use Rattle.std.proofs.lemmas.Bool.{eqb-true}
-use Rattle.sk_digits.specs.declared.decimal.Decimal.{Decimal}
-use Rattle.sk_digits.specs.Numerals.{all_digits, numeral}
-use Rattle.sk_digits.specs.Decimals.{at_point, decimals_of, first_decimals, unsigned_of, decimal_of}
+use Rattle.std.proofs.lemmas.Bool.{eqb-true, cases_Bool}
+use Rattle.sk_num.specs.declared.decimal.Decimal.{Decimal}
+use Rattle.sk_num.specs.Numerals.{all_digits, numeral}
+use Rattle.sk_num.specs.Decimals.{at_point, decimals_of, first_decimals, unsigned_of, decimal_of}
 use Rattle.sk_num.specs.Spelling.{quantity_of, read_as}
 use Rattle.sk_text.specs.Lines.{NoFeed, ends_in_return, IsEnded}
 use Rattle.sk_records.specs.Given.{has_byte, IsValue}
 use Rattle.sk_model.specs.Changes.{fed_line}
-use Rattle.sk_model.proofs.AcceptedNumbers.{two}
-use Rattle.sk_model.proofs.Digits.{AreHex, are_decimal, hex_of_decimal}
+use Rattle.sk_model.specs.TypingLaws.Digits.{AreHex, are_decimal, hex_of_decimal}
 
 abbrev pub Clean : List ℕ → Type 0
 Clean [] = Unit {0}
@@ -47,7 +46,7 @@ clean_value t c = record { no_feed = no_byte t c; no_return = no_return t c }
 
 numeral_clean : (ds : List ℕ) (n : ℕ) → numeral 10 ds ≡ Some n → Clean ds
 numeral_clean [] n e = cc
-numeral_clean (c ∷ cs) n e = elim (two (all_digits 10 (c ∷ cs))) [
+numeral_clean (c ∷ cs) n e = elim (cases_Bool (all_digits 10 (c ∷ cs))) [
   | inl h ↦ clean_hex (c ∷ cs) (hex_of_decimal (c ∷ cs) (are_decimal (c ∷ cs) h))
   | inr h ↦ (let f = rw h at e in cc f)
 ]
@@ -65,7 +64,7 @@ CleanBack (Some ds) = Clean ds
 
 halves_clean : (t : List ℕ) → Clean (at_point t).front → CleanBack (at_point t).back → Clean t
 halves_clean [] f b = tt
-halves_clean (c ∷ cs) f b = elim (two (nat_eq c 46)) [
+halves_clean (c ∷ cs) f b = elim (cases_Bool (nat_eq c 46)) [
   | inl h ↦ (point_clean c h, rw h at b)
   | inr h ↦ (let g : Clean (c ∷ (at_point cs).front) = rw h at f in (g.0, halves_clean cs g.1 (rw h at b)))
 ]
@@ -91,7 +90,7 @@ unsigned_clean t text d e = by_front (numeral 10 (at_point text).front) refl e
 
 decimal_clean : (t : List ℕ) (d : Decimal) → decimal_of t ≡ Some d → Clean t
 decimal_clean [] d e = cc
-decimal_clean (c ∷ cs) d e = elim (two (nat_eq c 45)) [
+decimal_clean (c ∷ cs) d e = elim (cases_Bool (nat_eq c 45)) [
   | inl h ↦ (minus_clean c h, unsigned_clean true cs d (rw h at e))
   | inr h ↦ unsigned_clean false (c ∷ cs) d (rw h at e)
 ]

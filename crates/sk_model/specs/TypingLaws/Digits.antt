@@ -3,11 +3,10 @@ use Rattle.std.proofs.Common.{◌≡◌, inl, inr, ℕ, ◌<◌, ◌≤◌, ◌^
 use Rattle.std.specs.Char.{is_digit}
 use Rattle.std.specs.Fmt.{decimal}
 use Rattle.std.proofs.lemmas.Fmt.{decimal_is_IsNumeral_wide}
-use Rattle.std.proofs.lemmas.Bool.{ltb-true, ltb-false}
-use Rattle.sk_model.proofs.AcceptedNumbers.{two}
-use Rattle.sk_digits.specs.Numerals.{all_digits, padded}
-use Rattle.sk_digits.proofs.Padded.{digits-padded, length-padded, both_true}
-use Rattle.sk_digits.proofs.ReadBack.{all_digits-from}
+use Rattle.std.proofs.lemmas.Bool.{ltb-true, ltb-false, cases_Bool}
+use Rattle.sk_num.specs.Numerals.{all_digits, padded}
+use Rattle.sk_num.specs.PaddedLaws.{digits-padded, length-padded, both_true}
+use Rattle.sk_num.specs.DecimalLaws.{all_digits-from}
 use Rattle.sk_records.specs.Classes as Classes
 use Rattle.sk_records.specs.Classes.{is_space, is_hex_digit}
 
@@ -42,17 +41,17 @@ upper_part c a b = record { hex = rw (past_range c 48 57 (omega arith), before_r
     before_range c low high a = grind arith
 
 hex_byte : (c : ℕ) → is_digit c 16 ≡ true → HexByte c
-hex_byte c e = elim (two (nat_lt c 48)) [
+hex_byte c e = elim (cases_Bool (nat_lt c 48)) [
   | inl a ↦ (let f = rw a at e in cc f)
-  | inr a ↦ elim (two (nat_lt c 58)) [
+  | inr a ↦ elim (cases_Bool (nat_lt c 58)) [
     | inl b ↦ decimal_part c (ltb-false c 48 a) (let h : c < 58 = ltb-true c 58 b in omega arith)
-    | inr b ↦ elim (two (nat_lt c 65)) [
+    | inr b ↦ elim (cases_Bool (nat_lt c 65)) [
       | inl d ↦ (let f = rw (a, b, d) at e in cc f)
-      | inr d ↦ elim (two (nat_lt c 91)) [
+      | inr d ↦ elim (cases_Bool (nat_lt c 91)) [
         | inl g ↦ upper_part c (ltb-false c 65 d) (let h : c - 55 < 16 = ltb-true (c - 55) 16 (rw (a, b, d, g) at e) in omega arith)
-        | inr g ↦ elim (two (nat_lt c 97)) [
+        | inr g ↦ elim (cases_Bool (nat_lt c 97)) [
           | inl k ↦ (let f = rw (a, b, d, g, k) at e in cc f)
-          | inr k ↦ elim (two (nat_lt c 123)) [
+          | inr k ↦ elim (cases_Bool (nat_lt c 123)) [
             | inl m ↦ lower_part c (ltb-false c 97 k) (let h : c - 87 < 16 = ltb-true (c - 87) 16 (rw (a, b, d, g, k, m) at e) in omega arith)
             | inr m ↦ (let f = rw (a, b, d, g, k, m) at e in cc f)
           ]

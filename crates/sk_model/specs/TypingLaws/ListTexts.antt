@@ -8,12 +8,11 @@ use Rattle.std.specs.Int.{is_negative}
 use Rattle.std.specs.Fmt.{decimal}
 use Rattle.std.specs.List.{All}
 use Rattle.std.proofs.lemmas.List.Elements.{All-head, All-tail, All-push}
-use Rattle.sk_digits.specs.Numerals.{numeral, padded}
-use Rattle.sk_digits.proofs.Padded.{length-padded}
-use Rattle.sk_digits.proofs.ReadBack.{numeral-decimal, numeral-padded}
+use Rattle.sk_num.specs.Numerals.{numeral, padded}
+use Rattle.sk_num.specs.SpellingLaws.{handle-read_back, whole-read_back}
 use Rattle.sk_num.specs.Spelling.{whole_of, handle_of}
 use Rattle.sk_text.specs.Lines.{TextLine, line_bytes, joined, lines_in, AreLines}
-use Rattle.sk_text.proofs.Whole.{lines_again}
+use Rattle.sk_text.specs.LineLaws.{lines_again}
 use Rattle.sk_types.specs.declared.group.RemapEntry.{RemapEntry}
 use Rattle.sk_records.specs.Classes as Classes
 use Rattle.sk_records.specs.Classes.{is_space, is_hex_digit, after_run, after_part, after_parts, is_nothing, is_opening, is_shut, is_entry}
@@ -22,8 +21,8 @@ use Rattle.sk_records.specs.Given.{AllEnded, is_list_rest, list_row}
 use Rattle.sk_model.specs.Remap.{after_spaces, until_space, from_space, first_word, after_word, entry_numbers, all_numbers}
 use Rattle.sk_model.specs.Changes.{fed_line, numbers_of, entry_text, list_lines}
 use Rattle.sk_model.specs.WrittenLines.{IsEntryText, IsListText}
-use Rattle.sk_model.proofs.Digits.{AreHex, AreDecimal, hex_of_decimal, decimal_digits, handle_digits}
-use Rattle.sk_model.proofs.CleanTexts.{Clean, clean-append, clean_hex, clean_ended}
+use Rattle.sk_model.specs.TypingLaws.Digits.{AreHex, AreDecimal, hex_of_decimal, decimal_digits, handle_digits}
+use Rattle.sk_model.specs.TypingLaws.CleanTexts.{Clean, clean-append, clean_hex, clean_ended}
 
 -- ---- words between blanks
 
@@ -42,25 +41,6 @@ until_end (d ∷ ds) are = rw are.0.space (ap (λ l. d ∷ l) (until_end ds are.
 from_blank : (ds rest : List ℕ) → AreHex ds → from_space (ds ++ (32 ∷ rest)) ≡ 32 ∷ rest
 from_blank [] rest are = refl
 from_blank (d ∷ ds) rest are = rw are.0.space (from_blank ds rest are.1)
-
--- ---- numbers that are read back
-
-from_zero : (n : ℕ) → is_negative (pos n) ≡ false
-from_zero n = grind arith
-
-whole_digits : (ds : List ℕ) (n : ℕ) → AreDecimal ds → 0 < length ds → numeral 10 ds ≡ Some n → n < 2 ^ 31 → whole_of ds ≡ Ok (pos n)
-unfolding whole_of
-whole_digits [] n are some e small = absurd (omega arith)
-whole_digits (c ∷ cs) n are some e small = rw (are.0.minus, e, from_zero n, lt-ltb n (2 ^ 31) small) refl
-
-whole_decimal : (n : ℕ) → n < 2 ^ 31 → whole_of (decimal n) ≡ Ok (pos n)
-whole_decimal n small =
-    let d = decimal_digits n (omega (arith, small)) in
-    whole_digits (decimal n) n d.0 d.1 (numeral-decimal n (omega (arith, small))) small
-
-pub handle_padded : (n : ℕ) → n < 2 ^ 32 → handle_of (padded 16 8 n) ≡ Ok n
-unfolding handle_of
-handle_padded n small = rw (length-padded 16 8 n, numeral-padded 16 8 n (omega arith) (omega arith) (omega arith) small) refl
 
 -- ---- the form of an entry
 
@@ -149,7 +129,7 @@ entry_is e a b c =
     let h = handle_digits e.source.0 in
     let k = decimal_digits e.copy (omega (arith, c)) in
     record {
-      reads = rw (word_first _ _ _ n.0 h.0 k.0 n.1 h.1 k.1, word_second _ _ _ n.0 h.0 k.0 n.1 h.1 k.1, word_third _ _ _ n.0 h.0 k.0 n.1 h.1 k.1, whole_decimal e.number (omega (arith, a)), handle_padded e.source.0 b, whole_decimal e.copy (omega (arith, c))) refl;
+      reads = rw (word_first _ _ _ n.0 h.0 k.0 n.1 h.1 k.1, word_second _ _ _ n.0 h.0 k.0 n.1 h.1 k.1, word_third _ _ _ n.0 h.0 k.0 n.1 h.1 k.1, whole-read_back e.number (omega (arith, a)), handle-read_back e.source.0 b, whole-read_back e.copy (omega (arith, c))) refl;
       entry = entry_form _ _ _ n.0 h.0 k.0 n.1 h.1 k.1;
       shut = refl;
       opening = refl;
@@ -190,41 +170,3 @@ list_is es text all is =
     let ended : AllEnded (list_lines es) = (clean_ended (codes "Group.remap={") opening_clean, all_ended es all) in
     let same : lines_in text ≡ list_lines es = ap lines_in is ∙ lines_again (list_lines es) (ended_lines (list_lines es) ended) in
     record { same = same; ended = rw same ended; whole = rw same (rest_is es all); reads = numbers_read es all }
-
--- ---- entries one behind the other
-
-abbrev pub front_lines : List RemapEntry → List TextLine
-front_lines es = fed_line (codes "Group.remap={") ∷ map (λ (e : RemapEntry). fed_line (entry_text e)) es
-
-joined-append : (a b : List TextLine) → joined (a ++ b) ≡ joined a ++ joined b
-joined-append a b = flat_map-append line_bytes a b
-
-one_joined : (l : TextLine) → joined (l ∷ []) ≡ line_bytes l
-one_joined l = append-nil (line_bytes l)
-
-pub fed_step : (es : List RemapEntry) (i : ℕ) (d : RemapEntry) (a b : List ℕ) → i < length es → a ≡ joined (front_lines (take i es)) → b ≡ a ++ line_bytes (fed_line (entry_text (get_or es i d))) → b ≡ joined (front_lines (take (i + 1) es))
-fed_step es i d a b lt is more =
-    let l : TextLine = fed_line (entry_text (get_or es i d)) in
-    more ∙ ap (λ (x : List ℕ). x ++ line_bytes l) is
-    ∙ ap (λ (x : List ℕ). joined (front_lines (take i es)) ++ x) (sym (one_joined l))
-    ∙ sym (joined-append (front_lines (take i es)) (l ∷ []))
-    ∙ ap (λ (x : List TextLine). joined (fed_line (codes "Group.remap={") ∷ x)) (sym (map-append (λ (e : RemapEntry). fed_line (entry_text e)) (take i es) (get_or es i d ∷ [])))
-    ∙ ap (λ (x : List RemapEntry). joined (front_lines x)) (sym (take_more es i d lt))
-
-pub all_step : (es : List RemapEntry) (i : ℕ) (d : RemapEntry) → i < length es → All IsEntryText (take i es) → IsEntryText (get_or es i d) → All IsEntryText (take (i + 1) es)
-all_step es i d lt all here = rw (take_more es i d lt) (All-push IsEntryText (take i es) (get_or es i d) all here)
-
-pub fed_end : (es : List RemapEntry) (i : ℕ) (a b : List ℕ) → length es ≤ i → a ≡ joined (front_lines (take i es)) → All IsEntryText (take i es) → b ≡ a ++ line_bytes (fed_line (codes "}")) → IsListText es b
-fed_end es i a b le is all more =
-    let whole : take i es ≡ es = take_all i es le in
-    list_is es b (rw whole at all)
-    (more ∙ ap (λ (x : List ℕ). x ++ line_bytes (fed_line (codes "}"))) (is ∙ ap (λ (x : List RemapEntry). joined (front_lines x)) whole)
-    ∙ ap (λ (x : List ℕ). joined (front_lines es) ++ x) (sym (one_joined (fed_line (codes "}"))))
-    ∙ sym (joined-append (front_lines es) (fed_line (codes "}") ∷ [])))
-
--- the parts of an entry's line one behind the other
-pub entry_written : (e : RemapEntry) (hex z a b c d f g h : List ℕ) → hex ≡ padded 16 8 e.source.0 →
-    a ≡ z ++ codes "    " → b ≡ a ++ decimal e.number → c ≡ b ++ (32 ∷ []) → d ≡ c ++ hex → f ≡ d ++ (32 ∷ []) → g ≡ f ++ decimal e.copy → h ≡ g ++ (10 ∷ []) → h ≡ z ++ line_bytes (fed_line (entry_text e))
-entry_written e hex z a b c d f g h eh ea eb ec ed ef eg last =
-    last ∙ ap (λ (x : List ℕ). x ++ (10 ∷ [])) (eg ∙ ap (λ (x : List ℕ). x ++ decimal e.copy) (ef ∙ ap (λ (x : List ℕ). x ++ (32 ∷ [])) (ed ∙ ap (λ (x : List ℕ). c ++ x) eh ∙ ap (λ (x : List ℕ). x ++ padded 16 8 e.source.0) (ec ∙ ap (λ (x : List ℕ). x ++ (32 ∷ [])) (eb ∙ ap (λ (x : List ℕ). x ++ decimal e.number) ea)))))
-    ∙ simp append_assoc refl

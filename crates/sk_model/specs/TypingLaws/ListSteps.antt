@@ -1,14 +1,13 @@
 -- Chains over lists that change.
 use Rattle.std.proofs.Common.{◌≡◌, ◌⊎◌, inl, inr, ℕ, suc, ◌+◌, List, [], ◌∷◌, ◌++◌, map, true, false, nat_eq, Result, Ok, refl, sym, ap, append_assoc, arith, length}
 use Rattle.std.specs.List.{position_or_len}
-use Rattle.std.proofs.lemmas.Bool.{eqb-true}
+use Rattle.std.proofs.lemmas.Bool.{eqb-true, cases_Bool}
 use Rattle.std.proofs.lemmas.List.{append-nil}
 use Rattle.sk_records.specs.Blocks.{changed_at}
 use Rattle.sk_model.specs.declared.faults.ModelFault.{ModelFault}
 use Rattle.sk_model.specs.Chain.{all_of}
 use Rattle.sk_model.specs.Changes.{with_first}
-use Rattle.sk_model.proofs.AcceptedNumbers.{two}
-use Rattle.sk_model.proofs.Lifted.{then_same, then_parts, ok_inj}
+use Rattle.sk_model.specs.TypingLaws.Chains.{then_same, then_parts, ok_inj}
 
 -- one by one related
 abbrev pub AllRelated : {R : Type 0} → (R → R → Type 0) → List R → List R → Type 0
@@ -46,7 +45,7 @@ all_set kept one id f g lift keep seen [] (x ∷ xs) e = cc
 all_set kept one id f g lift keep seen (r ∷ rs) xs e =
     then_parts (one seen r) _ xs e (λ x ex e1.
     then_parts (all_of kept one (seen ++ kept x ∷ []) rs) _ xs e1 (λ ys eys e2.
-    rw (sym (ok_inj e2)) (set_step kept one id f g lift keep seen r rs x ys ex eys (two (nat_eq id (kept x))) (all_set kept one id f g lift keep (seen ++ kept x ∷ []) rs ys eys))))
+    rw (sym (ok_inj e2)) (set_step kept one id f g lift keep seen r rs x ys ex eys (cases_Bool (nat_eq id (kept x))) (all_set kept one id f g lift keep (seen ++ kept x ∷ []) rs ys eys))))
 
 -- one more at the end
 pub all_added : {R T X : Type 0} (kept : T → X) (one : List X → R → Result T ModelFault) (r : R) (x : T) (seen : List X) (rs : List R) (xs : List T) →
