@@ -13,8 +13,8 @@ use Rattle.sk_types.specs.declared.handle.ParamId.{ParamId}
 use Rattle.sk_types.specs.declared.constraint.Constraint.{Constraint}
 use Rattle.sk_types.specs.declared.entity.Entity.{Entity}
 use Rattle.sk_types.specs.declared.entity.ParamValue.{ParamValue}
-use Rattle.sk_chain.specs.Sizes.{own_params}
-use Rattle.sk_model.specs.Models.{value_of}
+use Rattle.sk_types.specs.Params.{own_params}
+use Rattle.sk_types.specs.Lookups.{value_of}
 use Rattle.sk_model.specs.Typed.{Typed}
 use Rattle.sk_krawczyk.specs.declared.distance.Small.{Small}
 use Rattle.sk_krawczyk.specs.SoundBox.{IsSoundBox}
@@ -29,8 +29,8 @@ use Rattle.sk_app.specs.Certified.{members, stored, stored_point, is_distance_in
 use Rattle.sk_app.specs.ReportText.{printed, param_handle, coordinate_text}
 use Rattle.sk_app.specs.Answer.{Accepted}
 use Rattle.sk_app.specs.Printed.{PrintedBox, PassesTest, IsCertified, AreCertified, HasRefused}
-use Rattle.sk_num.proofs.ReadBack.{quantity-read_back}
-use Rattle.sk_model.proofs.ParamsFit.{ok-same, err-same}
+use Rattle.sk_num.specs.SpellingLaws.{quantity-read_back}
+use Rattle.sk_app.proofs.Values.{ok-same, err-same}
 use Rattle.sk_app.proofs.Columns.{columns-are, four-places, total}
 
 -- ---- numbers that read back

@@ -9,9 +9,9 @@ use Rattle.sk_records.specs.Blocks.{Block as TextBlock}
 use Rattle.sk_records.specs.Reading.{read_text}
 use Rattle.sk_types.specs.declared.entity.Outline.{Outline}
 use Rattle.sk_model.specs.declared.faults.ModelFault.{ModelFault}
-use Rattle.sk_model.specs.Models.{value_of}
+use Rattle.sk_types.specs.Lookups.{value_of}
 use Rattle.sk_model.specs.Typed.{Typed, typed}
-use Rattle.sk_model.proofs.ParamsFit.{ok-same, stored-fits}
+use Rattle.sk_app.proofs.Values.{ok-same, stored-fits}
 use Rattle.sk_chain.specs.Outlines.{outlined}
 use Rattle.sk_app.specs.declared.fault.Refusal.{Refusal}
 use Rattle.sk_app.specs.declared.fault.Refusal.TheVariants.{Text, Typed as IllTyped}

@@ -5,5 +5,6 @@ pub mod Causes
 pub mod Stops
 pub mod Groups
 pub mod Columns
+pub mod Values
 pub mod CertifiedRuns
 pub mod Headlines

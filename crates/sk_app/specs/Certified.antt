@@ -9,10 +9,11 @@ use Rattle.sk_types.specs.declared.constraint.Constraint.{Constraint}
 use Rattle.sk_types.specs.declared.entity.Entity.{Entity}
 use Rattle.sk_types.specs.declared.entity.Outline.{Outline}
 use Rattle.sk_types.specs.declared.entity.ParamValue.{ParamValue}
+use Rattle.sk_types.specs.declared.constraint_kind.TheConstants as constraint_kind
+use Rattle.sk_types.specs.Lookups.{value_of}
 use Rattle.sk_types.specs.Needs.{named}
+use Rattle.sk_types.specs.Params.{own_params}
 use Rattle.sk_model.specs.Typed.{Typed}
-use Rattle.sk_model.specs.Models.{value_of}
-use Rattle.sk_chain.specs.Sizes.{own_params}
 use Rattle.sk_krawczyk.specs.declared.distance.Small.{Small}
 use Rattle.sk_app.specs.declared.fault.StageFault.TheVariants.{NotYet}
 use Rattle.sk_app.specs.declared.fault.Refusal.{Refusal}
@@ -47,7 +48,7 @@ is_elsewhere g r = r.group.0 == g.0 && not (r.workplane.0 == first_plane)
 
 -- a distance of the group that holds, and isn't a reference
 abbrev pub is_distance_in : {s : ℕ} → GroupId → Constraint s → Bool
-is_distance_in g c = c.group.0 == g.0 && (c.kind == 30 && not c.reference)
+is_distance_in g c = c.group.0 == g.0 && (c.kind == constraint_kind.POINT_POINT_DISTANCE && not c.reference)
 
 -- Where the two parameters of a point in a workplane begin among the parameters of the entities; none where the point isn't
 -- one of them.

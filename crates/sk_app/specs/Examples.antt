@@ -1,6 +1,6 @@
 -- The definitions on small inputs.
 use Rattle.std.specs.Prelude.{◌≡◌, [], ◌∷◌, Some, None, false, codes, refl}
-use Rattle.sk_digits.specs.Numerals.{padded}
+use Rattle.sk_num.specs.Numerals.{padded}
 use Rattle.sk_model.specs.declared.faults.ModelFault.TheVariants.{LeftOut}
 use Rattle.sk_model.specs.declared.faults.Reason.TheVariants.{Request}
 use Rattle.sk_model.specs.Typed.{request_handle}

@@ -9,7 +9,7 @@ use Rattle.sk_model.specs.declared.faults.ModelFault.TheVariants as model
 use Rattle.sk_types.specs.declared.entity.Outline.{Outline}
 use Rattle.sk_model.specs.Models.{Modelled}
 use Rattle.sk_model.specs.Typed.{Typed as TypedLists}
-use Rattle.sk_chain.specs.Sizes.{OwnFit}
+use Rattle.sk_types.specs.Params.{OwnFit}
 use Rattle.sk_app.specs.declared.fault.Refusal.{Refusal}
 use Rattle.sk_app.specs.declared.fault.Refusal.TheVariants.{Text, Typed}
 use Rattle.sk_app.specs.declared.fault.Stop.{Stop}

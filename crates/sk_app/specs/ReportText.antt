@@ -1,7 +1,7 @@
 -- The text of a report.
 use Rattle.std.specs.Prelude.{ℕ, List, [], ◌∷◌, ◌++◌, ℤ, codes, length, flat_map, map}
 use Rattle.std.specs.Fmt.{decimal, signed_decimal}
-use Rattle.sk_digits.specs.Numerals.{padded}
+use Rattle.sk_num.specs.Numerals.{padded}
 use Rattle.sk_num.specs.Spelling.{quantity_text}
 use Rattle.sk_types.specs.declared.handle.ParamId.{ParamId}
 use Rattle.sk_types.specs.declared.entity.ParamValue.{ParamValue}

@@ -2,7 +2,7 @@
 ghost use Rattle.std.specs.Prelude.{◌≡◌, IfOk};
 ghost use Rattle.sk_records.specs.Reading.{read_text};
 ghost use Rattle.sk_model.specs.Typed.{typed};
-ghost use Rattle.sk_chain.specs.Sizes.{OwnFit};
+ghost use Rattle.sk_types.specs.Params.{OwnFit};
 ghost use Rattle.sk_chain.specs.Outlines.{outlined};
 ghost use Rattle.sk_app.specs.declared.fault.Refusal.TheVariants.{Text, Typed as IllTyped};
 ghost use Rattle.sk_app.specs.Chain.{with_err, unless};

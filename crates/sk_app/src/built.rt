@@ -4,7 +4,7 @@ ghost use Rattle.sk_model.specs.Typed.{is_space_kind, group_handle, request_hand
 ghost use Rattle.sk_app.specs.Built.{first_without, is_built_request as built_request, is_built_constraint as built_constraint, unbuilt as first_unbuilt};
 
 use sk_model::Model;
-use sk_types::{Constraint, Group, GroupKind, Request};
+use sk_types::{Constraint, Group, GroupKind, Request, constraint_kind, request_kind};
 
 // A drawing in space.
 fn is_built_group<const S: u32>(group: &Group<S>) -> bool
@@ -17,14 +17,16 @@ fn is_built_group<const S: u32>(group: &Group<S>) -> bool
 fn is_built_request(request: &Request) -> bool
     ensures { result ≡ built_request request.now }
 {
-    request.kind == 101 || (request.kind == 100 && request.id.0 <= 3)
+    request.kind == request_kind::DATUM_POINT
+        || (request.kind == request_kind::WORKPLANE && request.id.0 <= 3)
 }
 
 // A distance, or a comment.
 fn is_built_constraint<const S: u32>(constraint: &Constraint<S>) -> bool
     ensures { result ≡ built_constraint constraint.now }
 {
-    constraint.kind == 30 || constraint.kind == 1000
+    constraint.kind == constraint_kind::POINT_POINT_DISTANCE
+        || constraint.kind == constraint_kind::COMMENT
 }
 
 // The first group that isn't built.
@@ -65,8 +67,7 @@ fn unbuilt_constraint<const S: u32>(constraints: &[Constraint<S>]) -> Option<u32
 
 /// The handle of the first group, then request, then constraint in file order that isn't built yet.
 ///
-/// Built are drawings in space (5000), datum points (101), the three reference workplanes (100), distances (30) and
-/// comments (1000).
+/// Built are drawings in space, datum points, the three reference workplanes, distances between points, and comments.
 #[tactic(auto, unfolding(crate::specs::Built::unbuilt))]
 pub fn unbuilt<const S: u32>(model: &Model<S>) -> Option<u32>
     ensures { result ≡ first_unbuilt model.now.lists }

@@ -1,7 +1,7 @@
 // The groups of a model, each certified at its stored point.
 ghost use Rattle.std.specs.Prelude.{◌≡◌, ◌<◌, ◌≤◌, ◌+◌, ◌^◌, ◌++◌, IfOk, IfSome, OnOk, length, map};
 ghost use Rattle.std.specs.List.{All, list_any, filter};
-ghost use Rattle.sk_chain.specs.Sizes.{OwnFit};
+ghost use Rattle.sk_types.specs.Params.{OwnFit};
 ghost use Rattle.sk_app.specs.Lent.{IsAnswer, with_items, IsSmall};
 ghost use Rattle.sk_app.specs.Certified.{members, stored as stored_in, stored_point as stored_point_of, is_elsewhere, is_distance_in, point_column as column_in, columns_of, coordinate as coordinate_at, coordinates as coordinates_at, solved_column as solved, handles as handles_of, held_but, free_group as free, tested_at, by_distances, not_yet as not_yet_for, certified_in, is_reported as is_reported_group, all_certified};
 ghost use Rattle.sk_app.specs.DistanceTest.{distance_test};
@@ -9,12 +9,12 @@ ghost use Rattle.sk_app.specs.DistanceTest.{distance_test};
 use crate::SCALE;
 use crate::fault::{StageFault, Stop};
 use crate::report::Certified;
-use sk_chain::{own_count, own_params};
 use sk_krawczyk::{Small, try_distance};
 use sk_model::Model;
 use sk_num::{Grid, Items};
 use sk_types::{
-    Constraint, Entity, EntityId, GroupId, Numbering, Outline, ParamId, ParamValue, Request,
+    Constraint, EntityId, GroupId, Outline, ParamId, ParamValue, Request, constraint_kind,
+    own_count, own_params,
 };
 use std::alloc::{AllocError, Global};
 
@@ -230,7 +230,10 @@ fn distances(
 {
     let mut found = Vec::new(alloc);
     for constraint in constraints {
-        if constraint.group.0 == group.0 && constraint.kind == 30 && !constraint.reference {
+        if constraint.group.0 == group.0
+            && constraint.kind == constraint_kind::POINT_POINT_DISTANCE
+            && !constraint.reference
+        {
             found.push(*constraint)?;
         }
     }

@@ -207,7 +207,7 @@ fn models_that_are_refused(rt: HostRuntime) -> Result<(), Fail> {
         (
             37,
             37,
-            b"Request.type=300\n",
+            b"Request.type=301\n",
             b"left out 00000004 request\n",
         ),
         (37, 37, b"Request.type=99\n", b"unknown kind 00000004 99\n"),

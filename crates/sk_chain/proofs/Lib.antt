@@ -5,6 +5,5 @@ pub mod Faults
 pub mod Rising
 pub mod Places
 pub mod Made
-pub mod Modelled
 pub mod Counted
-pub mod Finding
+pub mod Checked

@@ -11,7 +11,8 @@ use Rattle.std.specs.List.Sorted.{IsStrictlySortedBy}
 use Rattle.std.specs.Map.{keys_of, values_of}
 use Rattle.std.proofs.lemmas.List.{length-map, take_all}
 use Rattle.std.proofs.lemmas.List.Elements.{All-from_recursion, recursion_from_All}
-use Rattle.sk_chain.specs.Known.{IsRequest, place_handle}
+use Rattle.sk_model.specs.Checked.{IsCheckedRequest}
+use Rattle.sk_chain.specs.Known.{place_handle}
 use Rattle.std.proofs.lemmas.List.Sums.{fold_more}
 use Rattle.sk_types.specs.declared.handle.GroupId.{GroupId}
 use Rattle.sk_types.specs.declared.group.Group.{Group}
@@ -151,17 +152,20 @@ requests_rise rs i es qs left e l h p n =
     let q = rw (n, append-nil qs) at p in
     rw q (rw (e, take_all i rs l, keys_mapped (requests_in_order rs)) at h)
 
-pub requests_known : (rs qs left : List Request) → qs ++ left ≡ requests_in_order rs → left ≡ [] → All IsRequest rs → All IsRequest qs
+pub requests_known : (rs qs left : List Request) → qs ++ left ≡ requests_in_order rs → left ≡ [] → All IsCheckedRequest rs → All IsCheckedRequest qs
 requests_known rs qs left p n h =
     let q = rw (n, append-nil qs) at p in
-    rw q (All-from_recursion IsRequest (requests_in_order rs) (all_onto request_handle nat_cmp (λ (r : Request) (q : Request). nat_lt r.id.0 q.id.0) request_handle handle_agrees IsRequest [] rs tt (recursion_from_All IsRequest rs h)))
+    rw q (All-from_recursion IsCheckedRequest (requests_in_order rs) (all_onto request_handle nat_cmp (λ (r : Request) (q : Request). nat_lt r.id.0 q.id.0) request_handle handle_agrees IsCheckedRequest [] rs tt (recursion_from_All IsCheckedRequest rs h)))
 
 places_mapped : {s : ℕ} (gs : List (Group s)) → map place_handle (map (λ g. g.id) gs) ≡ map group_handle gs
 places_mapped [] = refl
 places_mapped (g ∷ gs) = ap (λ ns. g.id.0 ∷ ns) (places_mapped gs)
 
+pub groups_distinct : {s : ℕ} (gs : List (Group s)) → IsDistinct nat_eq (map group_handle gs) → IsDistinct nat_eq (map group_handle (groups_in_order gs))
+groups_distinct gs d = in_order_distinct rank_of rank_cmp comes_before group_handle rank_agrees gs d
+
 pub order_distinct : {s : ℕ} (gs : List (Group s)) → IsDistinct nat_eq (map group_handle gs) → IsDistinct nat_eq (map place_handle (group_order gs))
-order_distinct gs d = rw (places_mapped (groups_in_order gs)) (in_order_distinct rank_of rank_cmp comes_before group_handle rank_agrees gs d)
+order_distinct gs d = rw (places_mapped (groups_in_order gs)) (groups_distinct gs d)
 
 pub order_read_distinct : {s : ℕ} (gs : List (Group s)) (order : List GroupId) (left : List Rank) → IsDistinct nat_eq (map group_handle gs) → order ++ map (λ (r : Rank). record { 0 = r.2 }) left ≡ group_order gs → left ≡ [] → IsDistinct nat_eq (map place_handle order)
 order_read_distinct gs order left d p n =

@@ -1,5 +1,5 @@
 -- Entities of requests that rise: all of them rise, and their parameters are handles.
-use Rattle.std.proofs.Common.{◌≡◌, inl, inr, ℕ, zero, suc, ◌+◌, ◌*◌, ◌<◌, ◌≤◌, ◌^◌, List, [], ◌∷◌, ◌++◌, length, take, map, Bool, true, false, refl, sym, ◌∙◌, arith}
+use Rattle.std.proofs.Common.{◌≡◌, inl, inr, ℕ, zero, suc, ◌+◌, ◌*◌, ◌<◌, ◌≤◌, ◌^◌, List, [], ◌∷◌, ◌++◌, length, take, map, Bool, true, false, Some, refl, ap, sym, ◌∙◌, append-nil, arith}
 use Rattle.std.specs.Prelude.{◌==◌, if◌then◌else◌}
 use Rattle.std.specs.List.{All, AllByRecursion, flat_map}
 use Rattle.std.specs.List.Sorted.{IsStrictlySortedBy}
@@ -14,11 +14,14 @@ use Rattle.sk_types.specs.declared.entity.Entity.{Entity}
 use Rattle.sk_types.specs.declared.entity.Numbering.{Numbering}
 use Rattle.sk_types.specs.declared.entity.Numbering.TheVariants.{Own, Moved, Copied, Placed, Nothing}
 use Rattle.sk_types.specs.declared.request.Request.{Request}
-use Rattle.sk_entity.specs.Requests.{bare, each_below, in_plane, normal_of, param_item, point_kind, request_entities, shaped_entities}
+use Rattle.sk_types.specs.declared.entity_kind.TheConstants as entity_kind
+use Rattle.sk_types.specs.declared.request_kind.TheConstants as request_kind
+use Rattle.sk_types.specs.Lists.{each_below}
+use Rattle.sk_types.specs.Lookups.{entity_handle, Rise}
+use Rattle.sk_types.specs.Params.{own_count, own_from, own_params, OwnFit}
+use Rattle.sk_entity.specs.Requests.{bare, curve_of, distance_of, in_plane, normal_of, param_item, point_kind, point_of, request_entities, shape, shaped_entities}
+use Rattle.sk_model.specs.Checked.{IsCheckedRequest}
 use Rattle.sk_model.specs.Typed.{request_handle}
-use Rattle.sk_chain.specs.Known.{IsRequest}
-use Rattle.sk_chain.specs.Lookups.{entity_handle, Rise}
-use Rattle.sk_chain.specs.Sizes.{own_count, own_from, own_params, OwnFit}
 use Rattle.sk_chain.proofs.Distinct.{two}
 
 -- ---- numbers that rise
@@ -36,7 +39,7 @@ all_append : {X : Type 0} (P : X → Type 0) (xs ys : List X) → AllByRecursion
 all_append P [] ys h k = k
 all_append P (x ∷ xs) ys h k = (h.0, all_append P xs ys h.1 k)
 
-all_weaker : {X : Type 0} (P Q : X → Type 0) (xs : List X) → ((x : X) → P x → Q x) → AllByRecursion P xs → AllByRecursion Q xs
+pub all_weaker : {X : Type 0} (P Q : X → Type 0) (xs : List X) → ((x : X) → P x → Q x) → AllByRecursion P xs → AllByRecursion Q xs
 all_weaker P Q [] f h = tt
 all_weaker P Q (x ∷ xs) f h = (f x h.0, all_weaker P Q xs f h.1)
 
@@ -99,6 +102,31 @@ normal_handle s r = elim (two (in_plane r)) [ inl e ↦ rw e refl | inr e ↦ rw
 normal_fits : (s : ℕ) (r : Request) → r.id.0 ≤ 32767 → Fits (normal_of s r).numbers
 normal_fits s r h = elim (two (in_plane r)) [ inl e ↦ rw e tt | inr e ↦ rw e (omega (arith, h)) ]
 
+-- items 1 to n
+abbrev items : ℕ → List ℕ
+items n = each_below n (λ i. i + 1)
+
+items_small : (n b : ℕ) → n < b → AllByRecursion (λ k. k < b) (items n)
+items_small zero b h = tt
+items_small (suc n) b h = all_append (λ k. k < b) (items n) ((n + 1) ∷ []) (items_small n b (omega arith)) (omega arith, tt)
+
+items_large : (n : ℕ) → AllByRecursion (λ k. nat_cmp 0 k ≡ Less) (items n)
+items_large zero = tt
+items_large (suc n) = all_append (λ k. nat_cmp 0 k ≡ Less) (items n) ((n + 1) ∷ []) (items_large n) (less 0 (n + 1) (omega arith), tt)
+
+items_rise : (n : ℕ) → IsStrictlySortedBy nat_cmp (items n)
+unfolding IsStrictlySortedBy
+items_rise zero = tt
+items_rise (suc n) = append_rises (n + 1) (items n) ((n + 1) ∷ []) (items_rise n) (items_small n (n + 1) (omega arith)) (tt, tt) (omega arith, tt)
+
+points_handles : (s : ℕ) (r : Request) (n : ℕ) → map entity_handle (each_below n (point_of s r)) ≡ map (λ i. r.id.0 * 65536 + i) (items n)
+points_handles s r zero = refl
+points_handles s r (suc n) = rw (map-append, map-append, points_handles s r n) refl
+
+points_fit : (s : ℕ) (r : Request) (n : ℕ) → r.id.0 ≤ 32767 → n ≤ 20000 → AllByRecursion (λ e. Fits e.numbers) (each_below n (point_of s r))
+points_fit s r zero h l = tt
+points_fit s r (suc n) h l = all_append (λ (e : Entity s). Fits e.numbers) (each_below n (point_of s r)) (point_of s r n ∷ []) (points_fit s r n h (omega arith)) (omega (arith, h, l), tt)
+
 module _ (s : ℕ) (r : Request) (h : r.id.0 ≤ 32767) where
   abbrev IsMade : List (Entity s) → Type 0
   IsMade es = IsBlock r.id.0 (map entity_handle es) × AllByRecursion (λ e. Fits e.numbers) es
@@ -111,29 +139,54 @@ module _ (s : ℕ) (r : Request) (h : r.id.0 ≤ 32767) where
   unfolding IsStrictlySortedBy
   point_made k c = (block_of r.id.0 (0 ∷ []) _ (tt, tt) (omega arith, tt) refl, (omega (arith, h), tt))
 
-  workplane_made : IsMade (shaped_entities s r (record { entity = 10000; points = 1; has_normal = true; has_distance = false }))
-  unfolding IsStrictlySortedBy
-  workplane_made = (block_of r.id.0 (0 ∷ 1 ∷ 32 ∷ []) (map entity_handle (shaped_entities s r (record { entity = 10000; points = 1; has_normal = true; has_distance = false }))) ((refl, (refl, tt)), ((refl, tt), (tt, tt))) (omega arith, (omega arith, (omega arith, tt))) (rw (normal_handle s r) refl), (tt, (omega (arith, h), (normal_fits s r h, tt))))
+  tail_handles : (n : ℕ) (more : List (Entity s)) (is : List ℕ) → map entity_handle more ≡ map (λ i. r.id.0 * 65536 + i) is → map entity_handle (each_below n (point_of s r) ++ more) ≡ map (λ i. r.id.0 * 65536 + i) (items n ++ is)
+  tail_handles n more is e = map-append entity_handle (each_below n (point_of s r)) more ∙ rw (points_handles s r n, e) (sym (map-append (λ i. r.id.0 * 65536 + i) (items n) is))
 
-  line_made : IsMade (shaped_entities s r (record { entity = 11000; points = 2; has_normal = false; has_distance = false }))
+  -- item 0, points, and what follows them
+  shape_made : (e : Entity s) (n : ℕ) (more : List (Entity s)) (is : List ℕ) → entity_handle e ≡ r.id.0 * 65536 + 0 → e.numbers ≡ Nothing → n ≤ 20000 → map entity_handle more ≡ map (λ i. r.id.0 * 65536 + i) is →
+      IsStrictlySortedBy nat_cmp is → AllByRecursion (λ k. n + 1 ≤ k) is → AllByRecursion (λ i. i < 65536) is → AllByRecursion (λ x. Fits x.numbers) more → IsMade (e ∷ each_below n (point_of s r) ++ more)
   unfolding IsStrictlySortedBy
-  line_made = (block_of r.id.0 (0 ∷ 1 ∷ 2 ∷ []) (map entity_handle (shaped_entities s r (record { entity = 11000; points = 2; has_normal = false; has_distance = false }))) ((refl, (refl, tt)), ((refl, tt), (tt, tt))) (omega arith, (omega arith, (omega arith, tt))) (refl), (tt, (omega (arith, h), (omega (arith, h), tt))))
+  shape_made e n more is a b l c d f k m = (
+    block_of r.id.0 (0 ∷ items n ++ is) (map entity_handle (e ∷ each_below n (point_of s r) ++ more))
+        (all_append (λ q. nat_cmp 0 q ≡ Less) (items n) is (items_large n) (all_weaker (λ q. n + 1 ≤ q) (λ q. nat_cmp 0 q ≡ Less) is (λ q p. less 0 q (omega (arith, p))) f), append_rises (n + 1) (items n) is (items_rise n) (items_small n (n + 1) (omega arith)) d f)
+        (omega arith, all_append (λ i. i < 65536) (items n) is (items_small n 65536 (omega (arith, l))) k)
+        (rw a (ap (λ ks. (r.id.0 * 65536 + 0) ∷ ks) (tail_handles n more is c))),
+    (rw b tt, all_append (λ x. Fits x.numbers) (each_below n (point_of s r)) more (points_fit s r n h l) m),
+  )
 
-  circle_made : IsMade (shaped_entities s r (record { entity = 13000; points = 1; has_normal = true; has_distance = true }))
+  workplane_made : IsMade (shaped_entities s r (Some (shape entity_kind.WORKPLANE 1 true false)))
   unfolding IsStrictlySortedBy
-  circle_made = (block_of r.id.0 (0 ∷ 1 ∷ 32 ∷ 64 ∷ []) (map entity_handle (shaped_entities s r (record { entity = 13000; points = 1; has_normal = true; has_distance = true }))) ((refl, (refl, (refl, tt))), ((refl, (refl, tt)), ((refl, tt), (tt, tt)))) (omega arith, (omega arith, (omega arith, (omega arith, tt)))) (rw (normal_handle s r) refl), (tt, (omega (arith, h), (normal_fits s r h, (omega (arith, h), tt)))))
+  workplane_made = shape_made (curve_of s r (shape entity_kind.WORKPLANE 1 true false)) 1 (normal_of s r ∷ []) (32 ∷ []) refl refl (omega arith) (rw (normal_handle s r) refl) (tt, tt) (omega arith, tt) (omega arith, tt) (normal_fits s r h, tt)
 
-  arc_made : IsMade (shaped_entities s r (record { entity = 14000; points = 3; has_normal = true; has_distance = false }))
+  line_made : IsMade (shaped_entities s r (Some (shape entity_kind.LINE 2 false false)))
   unfolding IsStrictlySortedBy
-  arc_made = (block_of r.id.0 (0 ∷ 1 ∷ 2 ∷ 3 ∷ 32 ∷ []) (map entity_handle (shaped_entities s r (record { entity = 14000; points = 3; has_normal = true; has_distance = false }))) ((refl, (refl, (refl, (refl, tt)))), ((refl, (refl, (refl, tt))), ((refl, (refl, tt)), ((refl, tt), (tt, tt))))) (omega arith, (omega arith, (omega arith, (omega arith, (omega arith, tt))))) (rw (normal_handle s r) refl), (tt, (omega (arith, h), (omega (arith, h), (omega (arith, h), (normal_fits s r h, tt))))))
+  line_made = shape_made (curve_of s r (shape entity_kind.LINE 2 false false)) 2 [] [] refl refl (omega arith) refl tt tt tt tt
 
-  request_made : IsMade (request_entities s r)
+  cubic_made : r.extra ≤ 8 → IsMade (shaped_entities s r (Some (shape entity_kind.CUBIC (4 + r.extra) false false)))
+  unfolding IsStrictlySortedBy
+  cubic_made l = rw (append-nil (each_below (4 + r.extra) (point_of s r) ++ [])) (shape_made (curve_of s r (shape entity_kind.CUBIC (4 + r.extra) false false)) (4 + r.extra) [] [] refl refl (omega (arith, l)) refl tt tt tt tt)
+
+  circle_made : IsMade (shaped_entities s r (Some (shape entity_kind.CIRCLE 1 true true)))
+  unfolding IsStrictlySortedBy
+  circle_made = shape_made (curve_of s r (shape entity_kind.CIRCLE 1 true true)) 1 (normal_of s r ∷ distance_of s r ∷ []) (32 ∷ 64 ∷ []) refl refl (omega arith) (rw (normal_handle s r) refl) ((refl, tt), (tt, tt)) (omega arith, (omega arith, tt)) (omega arith, (omega arith, tt)) (normal_fits s r h, (omega (arith, h), tt))
+
+  arc_made : IsMade (shaped_entities s r (Some (shape entity_kind.ARC 3 true false)))
+  unfolding IsStrictlySortedBy
+  arc_made = shape_made (curve_of s r (shape entity_kind.ARC 3 true false)) 3 (normal_of s r ∷ []) (32 ∷ []) refl refl (omega arith) (rw (normal_handle s r) refl) (tt, tt) (omega arith, tt) (omega arith, tt) (normal_fits s r h, tt)
+
+  nothing_made : IsMade []
+  unfolding IsStrictlySortedBy
+  nothing_made = ((tt, tt), tt)
+
+  request_made : r.extra ≤ 8 → IsMade (request_entities s r)
   unfolding request_entities
-  request_made =
-      made_if (λ es. es) (r.kind == 101) _ _ (point_made (point_kind r) r.construction) (
-      made_if (shaped_entities s r) (r.kind == 100) _ _ workplane_made (
-      made_if (shaped_entities s r) (r.kind == 200) _ _ line_made (
-      made_if (shaped_entities s r) (r.kind == 400) _ _ circle_made arc_made)))
+  request_made l =
+      made_if (λ es. es) (r.kind == request_kind.DATUM_POINT) _ _ (point_made (point_kind r) r.construction) (
+      made_if (shaped_entities s r) (r.kind == request_kind.WORKPLANE) _ _ workplane_made (
+      made_if (shaped_entities s r) (r.kind == request_kind.LINE) _ _ line_made (
+      made_if (shaped_entities s r) (r.kind == request_kind.CUBIC) _ _ (cubic_made l) (
+      made_if (shaped_entities s r) (r.kind == request_kind.CIRCLE) _ _ circle_made (
+      made_if (shaped_entities s r) (r.kind == request_kind.ARC) _ _ arc_made nothing_made)))))
 
 -- ---- parameters
 
@@ -142,7 +195,11 @@ few_if true a b h k = h
 few_if false a b h k = k
 
 own_few : (k : ℕ) → own_count k ≤ 4
-own_few k = few_if (k == 2000) 3 _ (omega arith) (few_if (k == 2001) 2 _ (omega arith) (few_if (k == 3000) 4 _ (omega arith) (few_if (k == 4000) 1 0 (omega arith) (omega arith))))
+own_few k =
+    few_if (k == entity_kind.POINT_IN_SPACE) 3 _ (omega arith) (
+    few_if (k == entity_kind.POINT_IN_WORKPLANE) 2 _ (omega arith) (
+    few_if (k == entity_kind.NORMAL_IN_SPACE) 4 _ (omega arith) (
+    few_if (k == entity_kind.DISTANCE) 1 0 (omega arith) (omega arith))))
 
 below_fit : (p n : ℕ) → n ≤ 4 → p + 4 ≤ 2 ^ 32 → AllByRecursion (λ (q : ParamId). q.0 < 2 ^ 32) (each_below n (λ i. record { 0 = p + i }))
 below_fit p zero h k = tt
@@ -164,17 +221,17 @@ all_flat : {T X : Type 0} (P : X → Type 0) (f : T → List X) (ts : List T) �
 all_flat P f [] h = tt
 all_flat P f (t ∷ ts) h = all_append P (f t) (flat_map f ts) h.0 (all_flat P f ts h.1)
 
-pub made_rise : (s : ℕ) (rs : List Request) → IsStrictlySortedBy nat_cmp (map request_handle rs) → All IsRequest rs → Rise (flat_map (request_entities s) rs)
+pub made_rise : (s : ℕ) (rs : List Request) → IsStrictlySortedBy nat_cmp (map request_handle rs) → All IsCheckedRequest rs → Rise (flat_map (request_entities s) rs)
 made_rise s rs h k =
-    blocks_rise (request_entities s) request_handle entity_handle rs h (all_weaker IsRequest (λ r. IsBlock (request_handle r) (map entity_handle (request_entities s r))) rs (λ r p. (request_made s r p.0).0) (recursion_from_All IsRequest rs k))
+    blocks_rise (request_entities s) request_handle entity_handle rs h (all_weaker IsCheckedRequest (λ r. IsBlock (request_handle r) (map entity_handle (request_entities s r))) rs (λ r p. (request_made s r p.most p.extra).0) (recursion_from_All IsCheckedRequest rs k))
 
-pub made_fit : (s : ℕ) (rs : List Request) → All IsRequest rs → OwnFit (flat_map (request_entities s) rs)
+pub made_fit : (s : ℕ) (rs : List Request) → All IsCheckedRequest rs → OwnFit (flat_map (request_entities s) rs)
 made_fit s rs k =
     All-from_recursion _ _ (all_flat (λ e. All (λ (q : ParamId). q.0 < 2 ^ 32) (own_params e)) (request_entities s) rs (
-    all_weaker IsRequest (λ r. AllByRecursion (λ e. All (λ (q : ParamId). q.0 < 2 ^ 32) (own_params e)) (request_entities s r)) rs (λ r p. all_weaker (λ e. Fits e.numbers) (λ e. All (λ (q : ParamId). q.0 < 2 ^ 32) (own_params e)) (request_entities s r) own_fits (request_made s r p.0).1) (
-    recursion_from_All IsRequest rs k)))
+    all_weaker IsCheckedRequest (λ r. AllByRecursion (λ e. All (λ (q : ParamId). q.0 < 2 ^ 32) (own_params e)) (request_entities s r)) rs (λ r p. all_weaker (λ e. Fits e.numbers) (λ e. All (λ (q : ParamId). q.0 < 2 ^ 32) (own_params e)) (request_entities s r) own_fits (request_made s r p.most p.extra).1) (
+    recursion_from_All IsCheckedRequest rs k)))
 
-module _ (s : ℕ) (es : List (Entity s)) (qs rs : List Request) (i : ℕ) (e : es ≡ flat_map (request_entities s) (take i qs)) (l : length qs ≤ i) (q : qs ≡ rs) (k : All IsRequest rs) where
+module _ (s : ℕ) (es : List (Entity s)) (qs rs : List Request) (i : ℕ) (e : es ≡ flat_map (request_entities s) (take i qs)) (l : length qs ≤ i) (q : qs ≡ rs) (k : All IsCheckedRequest rs) where
   all_of_them : es ≡ flat_map (request_entities s) rs
   all_of_them = e ∙ rw (take_all i qs l, q) refl
 

@@ -11,7 +11,6 @@ use Rattle.sk_entity.specs.Requests.{request_entities}
 use Rattle.sk_model.specs.declared.faults.ModelFault.TheVariants.{NoSuch, Ahead, BadValue}
 use Rattle.sk_model.specs.Typed.{Typed}
 use Rattle.sk_chain.specs.Order.{group_order}
-use Rattle.sk_chain.specs.Sizes.{unknowns_of, rows_of}
 use Rattle.sk_chain.specs.Outlines.{all_made, groups_fault, entities_fault, outlined}
 
 -- a drawing in space with this handle and order
@@ -67,20 +66,13 @@ constraint_of kind p q = record {
 order_of_four : map (λ (g : GroupId). g.0) (group_order (group_of 4 (pos 1) ∷ group_of 2 (pos 1) ∷ group_of 3 (negsuc 1) ∷ group_of 1 (pos 9) ∷ [])) ≡ 1 ∷ 3 ∷ 2 ∷ 4 ∷ []
 order_of_four = refl
 
--- a workplane, and two points in it, of groups 2 and 3; a point that constraint 200 fixes, be it twice, has nothing to solve
+-- a workplane, and two points in it, of groups 2 and 3
 abbrev drawn : List Request
 drawn = request_of 1 100 1 0 ∷ request_of 5 101 3 65536 ∷ request_of 4 101 2 65536 ∷ []
-
-abbrev made : List (Entity 36)
-made = all_made 36 drawn
 
 handles_made : map (λ (e : Entity 36). e.id.0) (all_made 36 (request_of 5 101 3 65536 ∷ request_of 4 101 2 65536 ∷ [])) ≡ 262144 ∷ 327680 ∷ []
 unfolding request_entities
 handles_made = refl
-
-sizes_made : unknowns_of [] made (record { 0 = 2 }) ∷ unknowns_of (constraint_of 200 262144 0 ∷ constraint_of 200 262144 0 ∷ []) made (record { 0 = 2 }) ∷ rows_of (constraint_of 20 262144 262144 ∷ []) made (record { 0 = 2 }) ∷ [] ≡ 2 ∷ 0 ∷ 2 ∷ []
-unfolding request_entities
-sizes_made = refl
 
 abbrev model_of : Constraint 36 → Typed 36
 model_of c = record { groups = group_of 1 (pos 0) ∷ group_of 2 (pos 1) ∷ group_of 3 (pos 2) ∷ []; params = []; requests = drawn; constraints = c ∷ [] }

@@ -1,6 +1,5 @@
 pub mod Order
 pub mod Lookups
-pub mod Sizes
 pub mod Outlines
 pub mod Known
 pub mod Counts

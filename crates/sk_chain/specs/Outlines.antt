@@ -12,7 +12,9 @@ use Rattle.sk_types.specs.declared.entity.Entity.{Entity}
 use Rattle.sk_types.specs.declared.entity.Outline.{Outline}
 use Rattle.sk_types.specs.declared.group.Group.{Group}
 use Rattle.sk_types.specs.declared.request.Request.{Request}
+use Rattle.sk_types.specs.Lookups.{entity_at}
 use Rattle.sk_types.specs.Needs.{needs_of, part_takes}
+use Rattle.sk_types.specs.Sizes.{unknowns_of, rows_of}
 use Rattle.sk_entity.specs.Requests.{request_entities}
 use Rattle.sk_model.specs.declared.faults.ModelFault.{ModelFault}
 use Rattle.sk_model.specs.declared.faults.ModelFault.TheVariants.{NoSuch, Ahead, BadValue, TooMany}
@@ -20,8 +22,7 @@ use Rattle.sk_model.specs.declared.faults.What.TheVariants as what
 use Rattle.sk_model.specs.Chain.{unless}
 use Rattle.sk_model.specs.Typed.{Typed, fault_if}
 use Rattle.sk_chain.specs.Order.{group_order, groups_in_order, requests_in_order}
-use Rattle.sk_chain.specs.Lookups.{entity_at, place_in}
-use Rattle.sk_chain.specs.Sizes.{unknowns_of, rows_of}
+use Rattle.sk_chain.specs.Lookups.{place_in}
 
 -- the first fault of things in a row
 abbrev pub first_fault : {T : Type 0} → (T → Option ModelFault) → List T → Option ModelFault
@@ -93,7 +94,7 @@ constraint_fault order es c = option_or
 
 -- ---- sizes
 
-abbrev pub size_fault : {s : ℕ} → List (Constraint s) → List (Entity s) → GroupId → Option ModelFault
+abbrev pub size_fault : {s : ℕ} → List (Constraint s) → List (Entity s) → Group s → Option ModelFault
 size_fault cs es g = option_or
     (fault_if (nat_lt 400 (unknowns_of cs es g)) (TooMany what.Unknowns))
     (fault_if (nat_lt 400 (rows_of cs es g)) (TooMany what.Rows))
@@ -112,7 +113,7 @@ unfoldable pub entities_fault : (s : ℕ) → Typed s → List GroupId → List 
 entities_fault s m order es =
     option_or (first_fault (request_fault order es) m.requests) (
     option_or (first_fault (constraint_fault order es) m.constraints) (
-    first_fault (size_fault m.constraints es) order))
+    first_fault (size_fault m.constraints es) (groups_in_order m.groups)))
 
 unfoldable pub outlined : (s : ℕ) → Typed s → Result (Outline s) ModelFault
 outlined s m =

@@ -2,13 +2,13 @@
 
 ghost use Rattle.std.specs.Prelude.{◌≡◌, ◌≤◌, IfOk, None, true, length, map, nat_eq};
 ghost use Rattle.std.specs.List.{IsDistinct, list_all};
+ghost use Rattle.sk_types.specs.Lookups.{Rise};
+ghost use Rattle.sk_types.specs.Params.{OwnFit};
 ghost use Rattle.sk_model.specs.Chain.{IsAnswer};
 ghost use Rattle.sk_model.specs.Typed.{is_space_kind};
 ghost use Rattle.sk_chain.specs.Known.{AreConstraints, AreGroups, AreRequests, place_handle};
-ghost use Rattle.sk_chain.specs.Lookups.{Rise};
 ghost use Rattle.sk_chain.specs.Order.{group_order};
 ghost use Rattle.sk_chain.specs.Outlines.{all_made, entities_fault, groups_fault, outlined};
-ghost use Rattle.sk_chain.specs.Sizes.{OwnFit};
 
 use crate::entities::{all_made, made_fault};
 use crate::lookups::places_of;
@@ -69,6 +69,8 @@ fn entities_fault<const S: u32>(
     places: &IndexSet<GroupId>,
     entities: &[Entity<S>],
 ) -> Result<Option<ModelFault>, AllocError>
+    requires groups { AreGroups model.now.lists.groups }
+    requires places { places.now.keys ≡ group_order model.now.lists.groups }
     requires distinct { IsDistinct nat_eq (map place_handle places.now.keys) }
     requires rising { Rise entities.now }
     requires accepted { AreConstraints model.now.lists.constraints }
@@ -80,7 +82,7 @@ fn entities_fault<const S: u32>(
     if let Some(fault) = constraints_fault(places, entities, model.constraints()) {
         return Ok(Some(fault));
     }
-    size_fault(alloc, places, entities, model.constraints())
+    size_fault(alloc, places, model.groups(), entities, model.constraints())
 }
 
 /// The order of the groups and all entities of a model of drawings in space, or its first fault: groups that are

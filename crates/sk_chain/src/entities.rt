@@ -1,35 +1,20 @@
 // The entities that groups make.
 
-ghost use Rattle.std.specs.Prelude.{◌≡◌, ◌≤◌, ℕ, IfOk, None, length};
-ghost use Rattle.sk_entity.specs.Requests.{request_entities};
+ghost use Rattle.std.specs.Prelude.{◌≡◌, ◌≤◌, IfOk, None, length};
+ghost use Rattle.sk_types.specs.Lookups.{Rise};
+ghost use Rattle.sk_types.specs.Params.{OwnFit};
 ghost use Rattle.sk_chain.specs.Known.{AreGroups, AreRequests};
-ghost use Rattle.sk_chain.specs.Lookups.{Rise};
 ghost use Rattle.sk_chain.specs.Outlines.{all_made, made_fault, first_fault, request_group_fault};
-ghost use Rattle.sk_chain.specs.Sizes.{OwnFit};
 ghost use Rattle.sk_chain.specs.Order.{group_order, groups_in_order};
 
 use crate::order::requests_in_order;
-use sk_entity::request_entities;
+use sk_entity::{entity_count, request_entities};
 use sk_model::{Model, ModelFault, What};
 use sk_types::{Entity, Request};
 use std::alloc::{AllocError, Global};
 
 // The most entities of all groups.
 const ENTITIES: usize = 200_000;
-
-// How many entities a request makes.
-#[tactic(auto, unfolding(sk_entity::specs::Requests::request_entities))]
-fn count_made(request: &Request) -> usize
-    ensures count { (s : ℕ) → result ≡ length (request_entities s request.now) }
-    ensures few { result ≤ 5 }
-{
-    match request.kind {
-        101 => 1,
-        100 | 200 => 3,
-        400 => 4,
-        _ => 5,
-    }
-}
 
 /// Why the model is refused for its entities, if it is. Each drawing in space makes those of its requests, so
 /// that only their number counts.
@@ -41,7 +26,7 @@ pub(crate) fn made_fault<const S: u32>(model: &Model<S>) -> Option<ModelFault>
 {
     let mut made = 0;
     for request in model.requests() {
-        made += count_made(request);
+        made += entity_count(request);
         if made > ENTITIES {
             return Some(ModelFault::TooMany(What::Entities));
         }

@@ -11,8 +11,6 @@ mod order;
 mod sizes;
 
 pub use chain::{order_groups, outline};
-pub use lookups::entity_at;
-pub use sizes::{own_count, own_params};
 
 #[cfg(test)]
 mod tests;

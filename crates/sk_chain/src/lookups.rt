@@ -1,28 +1,13 @@
-// Look-ups by handle.
+// Look-ups of groups by handle.
 
 ghost use Rattle.std.specs.Prelude.{◌≡◌, IfOk, nat_eq, map};
 ghost use Rattle.std.specs.List.{IsDistinct};
-ghost use Rattle.std.specs.Option.{option_copied};
-ghost use Rattle.sk_chain.specs.Lookups.{entity_at, place_in, Rise};
+ghost use Rattle.sk_chain.specs.Lookups.{place_in};
 ghost use Rattle.sk_chain.specs.Known.{place_handle};
 
 use indexmap::IndexSet;
-use sk_types::{Entity, EntityId, GroupId};
+use sk_types::GroupId;
 use std::alloc::{AllocError, Global};
-
-/// The entity with a handle, among entities by rising handle; None where there is none.
-pub fn entity_at<const S: u32>(entities: &[Entity<S>], id: EntityId) -> Option<&Entity<S>>
-    requires { Rise entities.now }
-    ensures { option_copied result ≡ entity_at id.0 entities.now }
-{
-    let handle = |entity: &Entity<S>| -> u32
-        ensures { result ≡ entity.now.id.0 }
-    { entity.id.0 };
-    match entities.binary_search_by_key(&id.0, handle) {
-        Ok(place) => Some(&entities[place]),
-        Err(_) => None,
-    }
-}
 
 /// The groups with their places.
 pub(crate) fn places_of(alloc: Global, order: &[GroupId]) -> Result<IndexSet<GroupId>, AllocError>

@@ -2,13 +2,14 @@
 
 ghost use Rattle.std.specs.Prelude.{◌≡◌};
 ghost use Rattle.sk_types.specs.Needs.{needs_of};
-ghost use Rattle.sk_chain.specs.Lookups.{place_in, Rise};
+ghost use Rattle.sk_types.specs.Lookups.{Rise};
+ghost use Rattle.sk_chain.specs.Lookups.{place_in};
 ghost use Rattle.sk_chain.specs.Outlines.{first_fault, group_fault, request_group_fault, constraint_group_fault, is_later, named_fault, workplane_fault, need_fault, request_fault, constraint_fault};
 
-use crate::lookups::{entity_at, place_in};
+use crate::lookups::place_in;
 use indexmap::IndexSet;
 use sk_model::ModelFault;
-use sk_types::{Constraint, Entity, EntityId, GroupId, Need, PartKind, Request};
+use sk_types::{Constraint, Entity, EntityId, GroupId, Need, PartKind, Request, entity_at};
 
 // Why a thing is refused for the group that it names, if it is.
 fn group_fault(places: &IndexSet<GroupId>, id: u32, group: GroupId) -> Option<ModelFault>

@@ -6,7 +6,8 @@ ghost use Rattle.std.specs.List.{All, IsDistinct};
 ghost use Rattle.std.specs.List.Sorted.{IsStrictlySortedBy};
 ghost use Rattle.sk_model.specs.Typed.{request_handle};
 ghost use Rattle.sk_chain.specs.Order.{group_order, requests_in_order};
-ghost use Rattle.sk_chain.specs.Known.{AreGroups, AreRequests, IsRequest, place_handle};
+ghost use Rattle.sk_model.specs.Checked.{IsCheckedRequest};
+ghost use Rattle.sk_chain.specs.Known.{AreGroups, AreRequests, place_handle};
 
 use sk_types::{Group, GroupId, Request};
 use std::alloc::{AllocError, Global};
@@ -48,7 +49,7 @@ pub(crate) fn requests_in_order(
     requires { AreRequests requests.now }
     ensures items { IfOk result (λ v. v.items ≡ requests_in_order requests.now) }
     ensures rising { IfOk result (λ v. IsStrictlySortedBy nat_cmp (map request_handle v.items)) }
-    ensures known { IfOk result (λ v. All IsRequest v.items) }
+    ensures known { IfOk result (λ v. All IsCheckedRequest v.items) }
 {
     let mut by_handle = BTreeMap::new(alloc);
     for request in requests {

@@ -1,14 +1,8 @@
-use Rattle.sk_chain.proofs.Modelled.{lists_known}
+use Rattle.sk_chain.proofs.Checked.{are_accepted}
 use Rattle.sk_chain.proofs.chain.typing_holds.Goals as goal
 
-pub returns-clause-groups : goal.returns-clause-groups
-returns-clause-groups g c = (lists_known g.row.S c.args.model.now.blocks c.args.model.now.lists c.book-book.ensures.typed).groups
-
 pub returns-clause-requests : goal.returns-clause-requests
-returns-clause-requests g c = (lists_known g.row.S c.args.model.now.blocks c.args.model.now.lists c.book-book.ensures.typed).requests
+returns-clause-requests g c = (c.book-book.ensures.checked.requests_differ, c.book-book.ensures.checked.requests)
 
 pub returns-clause-constraints : goal.returns-clause-constraints
-returns-clause-constraints g c = (lists_known g.row.S c.args.model.now.blocks c.args.model.now.lists c.book-book.ensures.typed).constraints
-
-pub returns-clause-few : goal.returns-clause-few
-returns-clause-few g c = (lists_known g.row.S c.args.model.now.blocks c.args.model.now.lists c.book-book.ensures.typed).few
+returns-clause-constraints g c = are_accepted c.args.model.now.lists.constraints c.book-book.ensures.checked.constraints
