@@ -1,7 +1,7 @@
 -- What evaluation encloses, over any kind of number that keeps the laws of a kernel.
 use Rattle.std.proofs.Common.{◌≡◌, ℕ, ◌+◌, ◌-◌, ◌*◌, ◌≤◌, max, ℤ, pos, List, Option, Some, None, arith, refl, ap, subst}
 use Rattle.std.specs.Prelude.{slice_get, option_and_then}
-use Rattle.sk_whole.specs.Sums.{unit_at}
+use Rattle.sk_num.specs.Sums.{unit_at}
 use Rattle.sk_num.specs.Enclosed.{Triple, triple_of, triple_mul, triple_scale}
 use Rattle.sk_num.specs.KernelLaws.{KernelLaws}
 use Rattle.sk_expr.specs.Poly.{Poly, number, cosine, unknown, plus, minus, times, degree}
@@ -9,7 +9,7 @@ use Rattle.sk_expr.specs.ExactValue.{exact}
 use Rattle.sk_expr.specs.SpanValue.{value_by}
 use Rattle.sk_expr.specs.DegreeLaws.{degree-positive, raise-value, raise-slope}
 
-both-some : {K : Type 0} (f : K → K → Option K) (a b : Option K) (z : K) → option_and_then (λ x. option_and_then (λ y. f x y) b) a ≡ Some z → (x : K) × (y : K) × (a ≡ Some x) × (b ≡ Some y) × (f x y ≡ Some z)
+pub both-some : {K : Type 0} (f : K → K → Option K) (a b : Option K) (z : K) → option_and_then (λ x. option_and_then (λ y. f x y) b) a ≡ Some z → (x : K) × (y : K) × (a ≡ Some x) × (b ≡ Some y) × (f x y ≡ Some z)
 both-some f None b z e = absurd cc
 both-some f (Some x) None z e = absurd cc
 both-some f (Some x) (Some y) z e = (x, y, refl, refl, e)
@@ -77,3 +77,10 @@ module _ (s n : ℕ) (K : Type 0) (of : ℤ → K) (add sub mul : K → K → Op
       let P = λ (m : ℕ). encloses m (n * da + n * (db - 1)) z (triple_mul (exact s n k p q c a) (exact s n k p q c b)) in
       let Q = λ (m : ℕ). encloses (n * (da + db)) m z (triple_mul (exact s n k p q c a) (exact s n k p q c b)) in
       subst Q j (subst P i r)
+
+-- what a number k of a polynomial encloses: at every precision from the scale on, the exact value and slope for all numbers that are enclosed
+pub record EnclosesPoly (s : ℕ) {K : Type 0} (encloses : ℕ → ℕ → K → Triple → Type 0) (us cs : List K) (t : Poly ℤ) (z : K) : Type 0 where
+  pub at_points : (n : ℕ) → s ≤ n → (k p q : ℕ → ℤ) (c : ℕ) →
+      ((i : ℕ) (x : K) → slice_get us i ≡ Some x → encloses n 0 x (record { at_p = p i; at_q = q i; slope = unit_at i c })) →
+      ((i : ℕ) (x : K) → slice_get cs i ≡ Some x → encloses n 0 x (record { at_p = k i; at_q = k i; slope = pos 0 })) →
+      encloses (n * degree t) (n * (degree t - 1)) z (exact s n k p q c t)

@@ -1,5 +1,38 @@
-//! Polynomials of a system in its unknowns and cosines: what they are worth exactly, and over a box.
+//! Polynomials of a system in its unknowns and cosines, as trees and on a tape of distinct nodes:
+//! what they are worth exactly, and over a box.
 //!
 //! The definitions and their laws stand in `specs/`: exact values and slopes, the slope identity, spans of both, and that
 //! these enclose the exact ones.
 #![tactic(auto)]
+
+mod building;
+mod dual;
+mod evaluation;
+mod expr;
+mod fault;
+mod forward;
+mod marks;
+mod node;
+mod parts;
+mod row;
+mod sparse;
+mod tape;
+mod tree_slopes;
+mod values;
+mod visited;
+
+pub use building::{add, copy, mul, sub};
+pub use dual::Dual;
+pub use evaluation::{degree, eval};
+pub use expr::Expr;
+pub use fault::VisitFault;
+pub use node::Node;
+pub use parts::{ConstraintParts, Frame, LineParts, RadiusParts, V3};
+pub use row::{Auxiliaries, Row, RowKind, RowName, Rows};
+pub use sparse::SparseRow;
+pub use tape::Tape;
+pub use tree_slopes::slopes;
+pub use visited::{AtPoint, Forced, Visited};
+
+#[cfg(test)]
+mod tests;
