@@ -1,4 +1,11 @@
 pub mod Elimination
+pub mod Rows
+pub mod Result
+pub mod Slopes
+pub mod Faults
 pub mod Examples
 pub mod EliminationLaws
 pub mod PivotLaws
+pub mod PartLaws
+pub mod ZeroLaws
+pub mod ReducedLaws

@@ -1,3 +1,6 @@
 pub mod Matrix
-pub mod Cells
 pub mod MatrixLaws
+pub mod Cells
+pub mod TableLaws
+pub mod Sparse
+pub mod SparseLaws

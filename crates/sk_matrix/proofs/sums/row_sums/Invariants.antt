@@ -1,0 +1,8 @@
+use Rattle.std.proofs.Common.{◌≡◌, ◌≤◌, ◌*◌, ◌^◌}
+use Rattle.sk_num.specs.Sums.{top_to}
+use Rattle.sk_matrix.specs.Matrix.{row_sum}
+use Rattle.sk_matrix.specs.Cells.{span_cell}
+use Rattle.sk_matrix.proofs.sums.row_sums.Given as goal
+
+abbrev pub invariant-loop-row : goal.invariant-loop-row
+invariant-loop-row g l = record { value : l.top ≡ top_to l.row (λ i. row_sum l.m.cols (span_cell l.m.cols l.m.cells i)); small : l.top ≤ l.m.cols * 2 ^ 62 }
