@@ -375,6 +375,3 @@ pub fn cosine<const S: u32>(degrees: Grid<S>) -> Result<Span<S>, BadAngle>
 pub fn narrower_law()
     ensures { NarrowerLaw }
 {}
-
-#[cfg(test)]
-mod tests;

@@ -5,14 +5,11 @@ use Rattle.std.proofs.lemmas.List.{length-append}
 use Rattle.sk_types.specs.declared.request.Request.{Request}
 use Rattle.sk_types.specs.declared.entity.Entity.{Entity}
 use Rattle.sk_types.specs.Lists.{each_below, only_if}
+use Rattle.sk_types.specs.ListLaws.{length-each_below}
 use Rattle.sk_entity.specs.declared.shape.Shape.{Shape}
 use Rattle.sk_entity.specs.Requests.{distance_of, normal_of, part_count, point_of, request_entities, shape_of, shaped_entities}
 use Rattle.sk_types.specs.declared.request_kind.TheConstants as request_kind
 use Rattle.sk_entity.proofs.OwnOfParts.{other}
-
-length-each_below : {A : Type 0} (f : ℕ → A) (n : ℕ) → length (each_below n f) ≡ n
-length-each_below f zero = refl
-length-each_below f (suc n) = rw (length-append, length-each_below f n) (omega arith)
 
 behind : {s : ℕ} (n : ℕ) (ps : List (Entity s)) (a b : Bool) (x y : Entity s) → length ps ≡ n → 1 + n + (if a then 1 else 0) + (if b then 1 else 0) ≡ suc (length (ps ++ only_if a (x ∷ []) ++ only_if b (y ∷ [])))
 behind n ps true true x y e = rw (length-append, length-append) (omega (arith, e))

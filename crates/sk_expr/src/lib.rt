@@ -33,6 +33,3 @@ pub use sparse::SparseRow;
 pub use tape::Tape;
 pub use tree_slopes::slopes;
 pub use visited::{AtPoint, Forced, Visited};
-
-#[cfg(test)]
-mod tests;

@@ -11,8 +11,6 @@ mod folder;
 mod mem_folder;
 mod mem_sink;
 mod out;
-#[cfg(test)]
-mod tests;
 
 pub use disk::DiskFolder;
 pub use folder::{Folder, OuterFault, Sink};

@@ -38,6 +38,3 @@ pub use spelling::{
     QuantityText, handle_text, quantity_law, quantity_text, read_handle, read_quantity, read_whole,
 };
 pub use whole_laws::{division_laws, order_laws, product_laws, sum_laws};
-
-#[cfg(test)]
-mod tests;

@@ -23,8 +23,6 @@ mod reading;
 mod removing;
 mod rows;
 mod spots;
-#[cfg(test)]
-mod tests;
 mod writing;
 
 pub use book::Book;

@@ -98,6 +98,3 @@ pub fn lines(text: &[u8]) -> LineIter<'_>
 {
     LineIter { text, at: 0 }
 }
-
-#[cfg(test)]
-mod tests;

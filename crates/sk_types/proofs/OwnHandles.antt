@@ -2,12 +2,12 @@
 use Rattle.std.proofs.Common.{◌≡◌, inl, inr, ℕ, zero, suc, ◌+◌, ◌<◌, ◌^◌, List, [], ◌∷◌, ◌++◌, length, nat_lt, refl, arith}
 use Rattle.std.specs.List.{All, AllByRecursion}
 use Rattle.std.proofs.lemmas.Bool.{ltb-true, ltb-false}
-use Rattle.std.proofs.lemmas.List.{length-append}
 use Rattle.std.proofs.lemmas.List.Elements.{recursion_from_All}
 use Rattle.sk_types.specs.declared.handle.ParamId.{ParamId}
 use Rattle.sk_types.specs.declared.entity.Entity.{Entity}
 use Rattle.sk_types.specs.declared.entity.Numbering.TheVariants.{Own}
 use Rattle.sk_types.specs.Lists.{each_below}
+use Rattle.sk_types.specs.ListLaws.{length-each_below}
 use Rattle.sk_types.specs.Params.{own_params, own_count}
 use Rattle.sk_types.proofs.Finding.{two}
 
@@ -18,10 +18,6 @@ all_front P (x ∷ xs) ys h = (h.0, all_front P xs ys h.1)
 all_back : {A : Type 0} (P : A → Type 0) (xs ys : List A) → AllByRecursion P (xs ++ ys) → AllByRecursion P ys
 all_back P [] ys h = h
 all_back P (x ∷ xs) ys h = all_back P xs ys h.1
-
-pub length-each_below : {A : Type 0} (f : ℕ → A) (n : ℕ) → length (each_below n f) ≡ n
-length-each_below f zero = refl
-length-each_below f (suc n) = rw (length-append, length-each_below f n) (omega arith)
 
 below_at : {A : Type 0} (P : A → Type 0) (f : ℕ → A) (n i : ℕ) → AllByRecursion P (each_below n f) → i < n → P (f i)
 below_at P f zero i h l = absurd (omega arith)

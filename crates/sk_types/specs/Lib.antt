@@ -1,4 +1,5 @@
 pub mod Lists
+pub mod ListLaws
 pub mod Handles
 pub mod Kinds
 pub mod Standings
