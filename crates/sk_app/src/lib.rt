@@ -11,8 +11,6 @@ mod pieces;
 mod prepared;
 mod report;
 mod status;
-#[cfg(test)]
-mod tests;
 mod top;
 
 pub use built::unbuilt;

@@ -9,3 +9,4 @@ pub mod PivotLaws
 pub mod PartLaws
 pub mod ZeroLaws
 pub mod ReducedLaws
+pub mod SizeLaws

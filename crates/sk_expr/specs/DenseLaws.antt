@@ -8,7 +8,7 @@ use Rattle.sk_expr.specs.Poly.{Poly, occurs}
 use Rattle.sk_expr.specs.SpanValue.{DualEnds, value_by, dual_value, span_slope, span_value}
 use Rattle.sk_expr.specs.SpanLaws.{map-some}
 use Rattle.sk_expr.specs.AbsentSlope.{constant_dual, absent-dual}
-use Rattle.sk_expr.specs.EachLaws.{cons-some}
+use Rattle.sk_num.specs.EachLaws.{cons-some}
 use Rattle.sk_expr.specs.Columns.{is_among}
 use Rattle.sk_expr.specs.SparseRows.{PlainSparse, occurring, sparse_slopes, span_beside}
 

@@ -6,7 +6,7 @@ use Rattle.sk_num.specs.Each.{each_some}
 use Rattle.sk_expr.specs.Poly.{Poly, occurs}
 use Rattle.sk_expr.specs.SpanValue.{span_value, span_slope}
 use Rattle.sk_expr.specs.SpanLaws.{map-some, span_value-encloses, span_slope-encloses}
-use Rattle.sk_expr.specs.EachLaws.{each_some-at, cons-some}
+use Rattle.sk_num.specs.EachLaws.{each_some-at, cons-some}
 use Rattle.sk_expr.specs.Enclosing.{EnclosesValue, EnclosesSlope, EnclosesValues, EnclosesSlopes}
 use Rattle.sk_expr.specs.SparseRows.{PlainSparse, occurring, sparse_slopes}
 

@@ -9,7 +9,6 @@ pub mod AbsentSlope
 pub mod System
 pub mod Renamed
 pub mod RenamedLaws
-pub mod EachLaws
 pub mod Trees
 pub mod Rows
 pub mod Tapes

@@ -20,3 +20,4 @@ pub mod Spelling
 pub mod SpellingLemmas
 pub mod SpellingLaws
 pub mod Each
+pub mod EachLaws

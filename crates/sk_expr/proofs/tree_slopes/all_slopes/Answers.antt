@@ -1,7 +1,7 @@
 use Rattle.std.proofs.Common.{sym, ℕ}
 use Rattle.sk_expr.specs.Trees.{poly_of}
 use Rattle.sk_expr.specs.SpanValue.{span_slope}
-use Rattle.sk_expr.specs.EachLaws.{each_some-step, each_some-none}
+use Rattle.sk_num.specs.EachLaws.{each_some-step, each_some-none}
 use Rattle.sk_expr.proofs.tree_slopes.all_slopes.Goals as goal
 
 pub returns-in-None-clause-past : goal.returns-in-None-clause-past

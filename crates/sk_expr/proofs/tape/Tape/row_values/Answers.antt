@@ -2,7 +2,7 @@ use Rattle.std.proofs.Common.{sym, ◌∙◌, get_or, None, ℕ}
 use Rattle.sk_num.specs.Ends.{point, span_add, span_sub, span_mul}
 use Rattle.sk_expr.specs.SpanValue.{value_by, span_value}
 use Rattle.sk_expr.specs.Tapes.{plain_tape, row_tree}
-use Rattle.sk_expr.specs.EachLaws.{each_some-step, each_some-none}
+use Rattle.sk_num.specs.EachLaws.{each_some-step, each_some-none}
 use Rattle.sk_expr.specs.NodeLaws.{knows-row}
 use Rattle.sk_expr.proofs.tape.Tape.row_values.Goals as goal
 

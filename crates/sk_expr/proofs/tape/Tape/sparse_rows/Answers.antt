@@ -1,7 +1,7 @@
 use Rattle.std.proofs.Common.{ap, sym, ◌∙◌, get_or, None, [], ◌∷◌, false, ℕ, map}
 use Rattle.std.proofs.lemmas.List.{map-append}
 use Rattle.sk_expr.specs.Tapes.{plain_tape, row_tree}
-use Rattle.sk_expr.specs.EachLaws.{each_some-step, each_some-none}
+use Rattle.sk_num.specs.EachLaws.{each_some-step, each_some-none}
 use Rattle.sk_expr.specs.NodeLaws.{knows-place}
 use Rattle.sk_expr.specs.ForwardSlopes.{plain_value, duals_in}
 use Rattle.sk_expr.specs.SparseRows.{sparse_slopes, plain_sparse}

@@ -1,7 +1,7 @@
 // Runs over folders and sinks in memory, each with its status and what it prints.
 ghost use Rattle.std.specs.Prelude.{◌≡◌};
 
-use crate::run;
+use sk_app::run;
 use sk_count::Steps;
 use sk_files::{MemFolder, MemSink};
 use std::alloc::{AllocError, Global};
