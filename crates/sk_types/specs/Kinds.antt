@@ -1,5 +1,5 @@
 -- Which entities are points, normals, distances and faces, by their numbers in SolveSpace's file format.
-use Rattle.std.specs.Prelude.{ℕ, Bool, List, [], ◌∷◌}
+use Rattle.std.specs.Prelude.{◌||◌, ℕ, Bool, List, [], ◌∷◌}
 use Rattle.sk_types.specs.declared.entity_kind.TheConstants as entity_kind
 use Rattle.sk_types.specs.Lists.{is_among}
 
@@ -26,3 +26,7 @@ is_distance n = is_among n distances
 
 abbrev pub is_face : ℕ → Bool
 is_face n = is_among n faces
+
+-- points, normals and distances stand at numbers; what else there is names them
+abbrev pub has_numbers : ℕ → Bool
+has_numbers n = is_point n || (is_normal n || is_distance n)

@@ -1,7 +1,7 @@
 // Which entities are points, normals, distances and faces.
 
 ghost use Rattle.std.specs.Prelude.{◌≡◌};
-ghost use Rattle.sk_types.specs.Kinds.{is_point, is_normal, is_distance, is_face};
+ghost use Rattle.sk_types.specs.Kinds.{has_numbers, is_point, is_normal, is_distance, is_face};
 
 use crate::entity_kind as kind;
 
@@ -47,4 +47,11 @@ pub fn is_face(number: u16) -> bool
         number,
         kind::FACE_BY_NORMAL | kind::FACE_BY_LINE | kind::MOVED_FACE
     )
+}
+
+/// Whether entities of this number stand at numbers: points, normals and distances do, and all others name such.
+pub fn has_numbers(number: u16) -> bool
+    ensures { result ≡ has_numbers number }
+{
+    is_point(number) || is_normal(number) || is_distance(number)
 }

@@ -23,7 +23,7 @@ pub use constraint::{Constraint, Need, PartKind, fits};
 pub use entity::{Act, Entity, Numbering, Numbers, Outline, ParamValue};
 pub use group::{Group, GroupKind, RemapEntry};
 pub use handle::{ConstraintId, EntityId, GroupId, Maker, ParamId, RequestId};
-pub use kinds::{is_distance, is_face, is_normal, is_point};
+pub use kinds::{has_numbers, is_distance, is_face, is_normal, is_point};
 pub use lookups::{act_at, entity_at, place_of, value_of};
 pub use params::{FixedPoints, group_count, group_params, own_count, own_params, unknown_params};
 pub use request::Request;
