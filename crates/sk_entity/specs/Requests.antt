@@ -9,7 +9,7 @@ use Rattle.sk_types.specs.declared.entity.Numbering.{Numbering}
 use Rattle.sk_types.specs.declared.entity.Numbering.TheVariants.{Own, Nothing}
 use Rattle.sk_types.specs.declared.entity_kind.TheConstants as entity_kind
 use Rattle.sk_types.specs.declared.request_kind.TheConstants as request_kind
-use Rattle.sk_types.specs.Handles.{item_of_request}
+use Rattle.sk_types.specs.Handles.{item_of_request, none}
 use Rattle.sk_types.specs.Lists.{each_below, only_if}
 use Rattle.sk_types.specs.Params.{own_params}
 use Rattle.sk_entity.specs.declared.shape.Shape.{Shape}
@@ -32,9 +32,6 @@ entity_item r i = record { 0 = item_of_request r.id.0 i }
 
 abbrev pub param_item : Request → ℕ → ParamId
 param_item r i = record { 0 = item_of_request r.id.0 i }
-
-abbrev pub none : EntityId
-none = record { 0 = 0 }
 
 abbrev pub in_plane : Request → Bool
 in_plane r = not (r.workplane.0 == 0)
