@@ -26,6 +26,7 @@ pub mod Seen
 pub mod Visits
 pub mod VisitLaws
 pub mod Vectors
+pub mod VectorViews
 pub mod Parts
 pub mod PartViews
 pub mod Formula

@@ -24,6 +24,10 @@ vector_difference (x ∷ xs) (y ∷ ys) = minus x y ∷ vector_difference xs ys
 unfoldable pub scaled : Poly ℤ → List (Poly ℤ) → List (Poly ℤ)
 scaled k a = map (times k) a
 
+-- a k, component by component
+unfoldable pub scaled_by : List (Poly ℤ) → Poly ℤ → List (Poly ℤ)
+scaled_by a k = map (λ c. times c k) a
+
 -- 0 - a, component by component
 unfoldable pub negated : List (Poly ℤ) → List (Poly ℤ)
 negated a = map (minus (number (pos 0))) a
