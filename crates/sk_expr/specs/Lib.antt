@@ -30,7 +30,9 @@ pub mod VectorViews
 pub mod Parts
 pub mod PartViews
 pub mod Formula
+pub mod FormulaViews
 pub mod Readings
+pub mod Follows
 pub mod RootLaws
 pub mod Enclosing
 pub mod EnclosingLaws

@@ -48,6 +48,9 @@ pub record PartsOf : Type 0 where
 abbrev pub no_vector : List (Poly ℤ)
 no_vector = number (pos 0) ∷ number (pos 0) ∷ []
 
+abbrev pub no_round : RoundParts
+no_round = record { centre = number (pos 0) ∷ no_vector; ends = []; flat_centre = None; flat_ends = []; distance = None; axes = [] }
+
 abbrev pub vector_at : List (List (Poly ℤ)) → ℕ → List (Poly ℤ)
 vector_at vs i = unwrap_or (slice_get vs i) no_vector
 
@@ -61,7 +64,7 @@ unfoldable pub axes_at : PartsOf → ℕ → NormalAxes
 axes_at m i = unwrap_or (slice_get m.axes i) (record { u = no_vector; v = no_vector; n = no_vector })
 
 unfoldable pub round_at : PartsOf → ℕ → RoundParts
-round_at m i = unwrap_or (slice_get m.rounds i) (record { centre = no_vector; ends = []; flat_centre = None; flat_ends = []; distance = None; axes = [] })
+round_at m i = unwrap_or (slice_get m.rounds i) no_round
 
 -- a point, an end of a line and a line's vector, point 0 less point 1: in the workplane, or else in space
 unfoldable pub point_at : Bool → PartsOf → ℕ → List (Poly ℤ)

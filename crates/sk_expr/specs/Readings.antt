@@ -99,25 +99,30 @@ all_relation_rows s seen (r ∷ rs) = option_and_then (λ ts. option_map (λ us.
 
 -- ---- a formula
 
--- what is seen once a formula's auxiliaries and cosines are made, and its relation rows
-pub record Grown : Type 0 where
-  pub seen : Seen
-  pub relations : List (Poly ℤ)
-
-abbrev pub with_cosines : List Ends → Seen → Seen
-with_cosines es seen = record seen { cosines = seen.cosines ++ es }
-
-unfoldable pub grown_by : ℕ → RowKind → ℕ → Formula → Seen → Option Grown
-grown_by s kind handle f seen =
-    option_and_then (λ (more : Seen). option_map (λ ts. record { seen = with_cosines f.cosines more; relations = ts }) (all_relation_rows s more f.relations))
-    (add_auxiliaries s kind handle f.auxiliaries seen)
-
 -- relation rows are counted from 0
 abbrev pub rows_from : RowKind → ℕ → ℕ → List (Poly ℤ) → List NamedRow
 rows_from kind handle i [] = []
 rows_from kind handle i (t ∷ ts) = row_named kind handle i t ∷ rows_from kind handle (i + 1) ts
 
-abbrev pub with_relations : RowKind → ℕ → Grown → Seen
-with_relations kind handle g =
+-- what is seen once a formula's auxiliaries and cosines are made, and its relation rows
+pub record Grown : Type 0 where
+  pub seen : Seen
+  pub rows : List NamedRow
+
+abbrev pub with_cosines : List Ends → Seen → Seen
+with_cosines es seen = record seen { cosines = seen.cosines ++ es }
+
+abbrev pub grown : RowKind → ℕ → Formula → Seen → List (Poly ℤ) → Grown
+grown kind handle f seen ts = record { seen = with_cosines f.cosines seen; rows = rows_from kind handle 0 ts }
+
+-- the auxiliaries come first, one after another, then the relation rows by the readings of all; none past the limit
+unfoldable pub grown_by : ℕ → RowKind → ℕ → Formula → Seen → Option Grown
+grown_by s kind handle f seen =
+    option_and_then (λ (more : Seen). option_map (grown kind handle f more) (all_relation_rows s more f.relations))
+    (add_auxiliaries s kind handle f.auxiliaries seen)
+
+-- with the relation rows behind all others
+abbrev pub with_relations : Grown → Seen
+with_relations g =
     let seen = g.seen in
-    record seen { rows = seen.rows ++ rows_from kind handle 0 g.relations }
+    record seen { rows = seen.rows ++ g.rows }

@@ -1,5 +1,5 @@
 ghost use Rattle.std.specs.Prelude.{◌≡◌, IfOk};
-ghost use Rattle.sk_expr.specs.Poly.{plus, minus, times};
+ghost use Rattle.sk_expr.specs.Poly.{number, plus, minus, times};
 ghost use Rattle.sk_expr.specs.Trees.{poly_of};
 
 use crate::expr::Expr;
@@ -43,6 +43,16 @@ pub fn mul<const S: u32>(
     let a = Box::new(alloc, a)?;
     let b = Box::new(alloc, b)?;
     Ok(Expr::Mul(a, b))
+}
+
+/// A number times itself, as a tree.
+pub fn squared_number<const S: u32>(
+    alloc: Global,
+    value: Grid<S>,
+) -> Result<Expr<Grid<S>>, AllocError>
+    ensures { IfOk result (λ e. poly_of e ≡ times (number value.entry) (number value.entry)) }
+{
+    mul(alloc, Expr::Num(value), Expr::Num(value))
 }
 
 /// An equal tree in memory of its own.

@@ -5,15 +5,19 @@
 //! these enclose the exact ones.
 #![tactic(auto)]
 
+mod accessors;
 mod building;
 mod dual;
 mod evaluation;
 mod expr;
 mod fault;
+mod formula;
 mod forward;
+mod growth;
 mod marks;
 mod node;
 mod parts;
+mod readings;
 mod row;
 mod sparse;
 mod tape;
@@ -22,13 +26,15 @@ mod values;
 mod vectors;
 mod visited;
 
-pub use building::{add, copy, mul, sub};
+pub use building::{add, copy, mul, squared_number, sub};
 pub use dual::Dual;
 pub use evaluation::{degree, eval};
 pub use expr::{Expr, Tree};
 pub use fault::VisitFault;
+pub use formula::{Auxiliary, Formula, Relation};
 pub use node::Node;
 pub use parts::{ConstraintParts, Frame, LineParts, RadiusParts, V3};
+pub use readings::Readings;
 pub use row::{Auxiliaries, Row, RowKind, RowName, Rows};
 pub use sparse::SparseRow;
 pub use tape::Tape;

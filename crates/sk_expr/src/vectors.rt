@@ -241,4 +241,26 @@ impl<const S: u32> Vector<S> {
     {
         minor(alloc, &self.y, &b.x, &self.x, &b.y)
     }
+
+    /// The third component, 0 in a workplane.
+    fn third(&self, alloc: Global) -> Result<Tree<S>, AllocError>
+        ensures { IfOk result (λ e. poly_of e ≡ component (vector_of self.now) 2) }
+    {
+        match &self.z {
+            Some(z) => Ok(copy(alloc, z)?),
+            None => Ok(Expr::Num(Grid::zero())),
+        }
+    }
+
+    /// The cross product of `a` and `b`, in space.
+    pub fn cross(&self, alloc: Global, b: &Vector<S>) -> Result<Vector<S>, AllocError>
+        ensures { IfOk result (λ v. vector_of v ≡ cross (vector_of self.now) (vector_of b.now)) }
+    {
+        let (z, w) = (self.third(alloc)?, b.third(alloc)?);
+        Ok(Vector {
+            x: minor(alloc, &self.y, &w, &z, &b.y)?,
+            y: minor(alloc, &z, &b.x, &self.x, &w)?,
+            z: Some(minor(alloc, &self.x, &b.y, &self.y, &b.x)?),
+        })
+    }
 }
