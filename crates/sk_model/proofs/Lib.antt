@@ -4,7 +4,9 @@ pub mod Parts
 pub mod ListWritten
 pub mod Places
 pub mod ModelSet
+pub mod ManySteps
+pub mod ListsSteps
 pub mod ParamWritten
+pub mod HandleSteps
 pub mod Outcomes
-pub mod ListParts
-pub mod ParamPut
+pub mod KeyLines

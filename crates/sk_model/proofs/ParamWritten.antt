@@ -1,5 +1,5 @@
 -- The record that is added for a parameter, written part by part.
-use Rattle.std.proofs.Common.{◌≡◌, ℕ, List, [], ◌∷◌, ◌++◌, refl, ap, ◌∙◌, append_assoc}
+use Rattle.std.proofs.Common.{◌≡◌, ℕ, List, [], ◌∷◌, ◌++◌, ap, ◌∙◌, append_assoc}
 use Rattle.std.specs.Prelude.{ℤ, codes}
 use Rattle.sk_num.specs.Numerals.{padded}
 use Rattle.sk_num.specs.Spelling.{quantity_text}

@@ -3,7 +3,8 @@ use Rattle.std.proofs.Common.{◌≡◌, ℕ, ◌+◌, ◌<◌, List, [], ◌∷
 use Rattle.sk_types.specs.declared.group.RemapEntry.{RemapEntry}
 use Rattle.sk_model.specs.declared.faults.ModelFault.{ModelFault}
 use Rattle.sk_model.specs.declared.remap.EntryNumbers.{EntryNumbers}
-use Rattle.sk_model.specs.Remap.{entry_over, numbers_in, copies_in}
+use Rattle.sk_types.specs.Copies.{copies_in}
+use Rattle.sk_model.specs.Remap.{entry_over, numbers_in}
 use Rattle.sk_model.proofs.Steps.{RestOf, rest_step, rest_fault, map_same}
 
 abbrev over_entries : ℕ → List RemapEntry → EntryNumbers → Result RemapEntry ModelFault

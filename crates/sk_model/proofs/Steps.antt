@@ -1,7 +1,7 @@
 -- Steps of a chain over a list.
-use Rattle.std.proofs.Common.{◌≡◌, ◌⊎◌, ℕ, suc, ◌+◌, ◌<◌, List, [], ◌∷◌, ◌++◌, length, get_or, drop, map, Bool, false, Result, Ok, Err, refl, sym, ap, ◌∙◌, append_assoc, add-one, drop-cons}
+use Rattle.std.proofs.Common.{◌≡◌, ◌⊎◌, inl, inr, ℕ, suc, ◌+◌, ◌≤◌, ◌<◌, List, [], ◌∷◌, ◌++◌, length, get_or, drop, map, Bool, false, Result, Ok, Err, refl, sym, ap, ◌∙◌, subst, append_assoc, add-one, drop-cons}
 use Rattle.std.specs.Prelude.{if◌then◌else◌}
-use Rattle.std.proofs.lemmas.List.{map-append}
+use Rattle.std.proofs.lemmas.List.{append-nil, drop_all, map-append}
 use Rattle.sk_model.specs.declared.faults.ModelFault.{ModelFault}
 use Rattle.sk_model.specs.declared.faults.ModelFault.TheVariants.{NoMemory}
 use Rattle.sk_model.specs.Chain.{then_of, all_of, IsAnswer}
@@ -42,8 +42,25 @@ pub typed_fault : {R T X : Type 0} (kept : T → X) (one : List X → R → Resu
     one keys (get_or rs i d) ≡ Err f → keys ≡ map kept xs → i < length rs → RestOf kept one xs i rs ≡ m → m ≡ Err f
 typed_fault kept one xs f keys i rs d m h k l p = rest_fault kept one xs i rs d f m l (rw k at h) p
 
+-- nothing is left
+pub rest_done : {R T X : Type 0} (kept : T → X) (one : List X → R → Result T ModelFault) (xs : List T) (i : ℕ) (rs : List R) (m : Result (List T) ModelFault) → length rs ≤ i → RestOf kept one xs i rs ≡ m → m ≡ Ok xs
+rest_done kept one xs i rs m over p = sym p ∙ rw (drop_all i rs over) (ap Ok (append-nil xs))
+
+-- a thing's fault is that of all
+pub fault_answered : {R T X : Type 0} (kept : T → X) (one : List X → R → Result T ModelFault) (xs : List T) (f : ModelFault) (keys : List X) (i : ℕ) (rs : List R) (d : R) (r m : Result (List T) ModelFault) →
+    (f ≡ NoMemory) ⊎ (one keys (get_or rs i d) ≡ Err f) → keys ≡ map kept xs → i < length rs → RestOf kept one xs i rs ≡ m → r ≡ Err f → IsAnswer r m
+fault_answered {T} kept one xs f keys i rs d r m v k l p e = subst (λ (x : Result (List T) ModelFault). IsAnswer x m) (sym e) (by_cause v)
+  where
+    by_cause : (f ≡ NoMemory) ⊎ (one keys (get_or rs i d) ≡ Err f) → (f ≡ NoMemory) ⊎ (m ≡ Err f)
+    by_cause (inl n) = inl n
+    by_cause (inr h) = inr (typed_fault kept one xs f keys i rs d m h k l p)
+
 pub answer_ok : {T : Type 0} (r m : Result T ModelFault) (x : T) → IsAnswer r m → r ≡ Ok x → m ≡ Ok x
 answer_ok r m x a e = rw e at a
 
 pub answer_err : {T : Type 0} (r m : Result T ModelFault) (f : ModelFault) → IsAnswer r m → r ≡ Err f → (f ≡ NoMemory) ⊎ (m ≡ Err f)
 answer_err r m f a e = rw e at a
+
+pub answered : {T : Type 0} (r m : Result T ModelFault) → r ≡ m → IsAnswer r m
+answered (Ok x) m e = sym e
+answered (Err f) m e = inr (sym e)

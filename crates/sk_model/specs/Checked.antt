@@ -5,10 +5,13 @@ use Rattle.sk_num.specs.Limit.{IsInLimit}
 use Rattle.sk_types.specs.declared.standing.Standing.TheVariants.{Accepted}
 use Rattle.sk_types.specs.Standings.{request_standing, constraint_standing}
 use Rattle.sk_types.specs.declared.group.Group.{Group}
+use Rattle.sk_types.specs.declared.group.RemapEntry.{RemapEntry}
 use Rattle.sk_types.specs.declared.handle.EntityId.{EntityId}
 use Rattle.sk_types.specs.declared.request.Request.{Request}
 use Rattle.sk_types.specs.declared.constraint.Constraint.{Constraint}
 use Rattle.sk_types.specs.Lookups.{value_handle}
+use Rattle.sk_types.specs.Copies.{copies_in, same_copy}
+use Rattle.sk_model.specs.Remap.{numbers_in}
 use Rattle.sk_model.specs.Requests.{most_extra}
 use Rattle.sk_model.specs.Settable.{IsSettable, IsRemapList, HasSources}
 use Rattle.sk_model.specs.Typed.{Typed, group_handle, request_handle, constraint_handle}
@@ -17,11 +20,23 @@ use Rattle.sk_model.specs.Typed.{Typed, group_handle, request_handle, constraint
 abbrev pub IsHandle : ℕ → Type 0
 IsHandle h = h < 2 ^ 32
 
+pub record IsCheckedEntry (e : RemapEntry) : Type 0 where
+  pub least : 1 ≤ e.number
+  pub most : e.number ≤ 65535
+  pub copy : e.copy ≤ 65535
+
+-- no number and no copy of an entity stands twice
+pub record IsCheckedList (es : List RemapEntry) : Type 0 where
+  pub entries : All IsCheckedEntry es
+  pub numbers_differ : IsDistinct nat_eq (numbers_in es)
+  pub copies_differ : IsDistinct same_copy (copies_in es)
+
 pub record IsCheckedGroup {s : ℕ} (g : Group s) : Type 0 where
   pub least : 1 ≤ g.id.0
   pub most : g.id.0 ≤ 32767
   pub copies : g.copies ≤ 999
   pub list : IsRemapList g.id.0 g.remap
+  pub entries : IsCheckedList g.remap
   pub sources : HasSources g.remap
   pub active : IsHandle g.active.0
   pub source : IsHandle g.source.0

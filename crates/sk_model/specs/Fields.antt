@@ -2,12 +2,18 @@
 use Rattle.std.specs.Prelude.{ℕ, ◌==◌, ℤ, pos, negsuc, List, [], Option, Some, None, Bool, false, not, Result, Ok, Err, unwrap_or}
 use Rattle.sk_num.specs.declared.fault.NumFault.{NumFault}
 use Rattle.sk_num.specs.Spelling.{handle_of, whole_of, quantity_of}
+use Rattle.sk_records.specs.declared.kinds.Kind.{Kind}
 use Rattle.sk_records.specs.Rows.{Row, last_value, last_number}
 use Rattle.sk_model.specs.declared.faults.ModelFault.{ModelFault}
 use Rattle.sk_model.specs.declared.faults.ModelFault.TheVariants.{NumberAt}
 use Rattle.sk_model.specs.declared.keys.Key.{Key}
 use Rattle.sk_model.specs.Keys.{key_bytes}
 use Rattle.sk_model.specs.Chain.{then_of}
+
+-- the lines of a record of a kind
+pub record RecordLines : Type 0 where
+  pub kind : Kind
+  pub rows : List Row
 
 -- a text that doesn't read is refused by the number of its line; a line that a call added has none
 abbrev pub read_at : {T : Type 0} → Option ℕ → Result T NumFault → Result T ModelFault

@@ -1,8 +1,9 @@
 -- The numbers of a group's copies, as its remap list says.
-use Rattle.std.specs.Prelude.{ℕ, ◌&&◌, nat_eq, ℤ, pos, int_le, unsigned_abs, List, [], ◌∷◌, Bool, not, map, Result, Ok, if◌then◌else◌}
+use Rattle.std.specs.Prelude.{ℕ, ◌&&◌, ℤ, pos, int_le, unsigned_abs, List, [], ◌∷◌, Bool, not, map, Result, Ok, if◌then◌else◌}
 use Rattle.std.specs.List.{list_any}
 use Rattle.sk_num.specs.Spelling.{handle_of, whole_of}
 use Rattle.sk_types.specs.declared.group.RemapEntry.{RemapEntry}
+use Rattle.sk_types.specs.Copies.{CopyKey, copied, same_copy, copies_in}
 use Rattle.sk_records.specs.Classes.{is_space}
 use Rattle.sk_records.specs.MapRows.{EntryLine}
 use Rattle.sk_model.specs.declared.faults.ModelFault.{ModelFault}
@@ -55,15 +56,8 @@ is_in_range e = is_within (pos 1) (pos 65535) e.number && is_within (pos 0) (pos
 abbrev pub remap_entry : EntryNumbers → RemapEntry
 remap_entry e = record { number = unsigned_abs e.number; source = record { 0 = e.source }; copy = unsigned_abs e.copy }
 
--- an entity that is copied, and which copy of it
-abbrev pub copied : RemapEntry → ℕ × ℕ
-copied e = (e.source.0, e.copy)
-
-abbrev pub same_copy : ℕ × ℕ → ℕ × ℕ → Bool
-same_copy a b = nat_eq a.0 b.0 && nat_eq a.1 b.1
-
 -- an entry over the numbers and the copies of earlier ones: it is in range, and none of them has its number or its copy
-unfoldable pub entry_over : ℕ → List ℕ → List (ℕ × ℕ) → EntryNumbers → Result RemapEntry ModelFault
+unfoldable pub entry_over : ℕ → List ℕ → List CopyKey → EntryNumbers → Result RemapEntry ModelFault
 entry_over id numbers copies e =
     refused (not (is_in_range e)) (BadValue id) (
     refused (seen_in (remap_entry e).number numbers) (BadValue id) (
@@ -72,9 +66,6 @@ entry_over id numbers copies e =
 
 abbrev pub numbers_in : List RemapEntry → List ℕ
 numbers_in es = map (λ (e : RemapEntry). e.number) es
-
-abbrev pub copies_in : List RemapEntry → List (ℕ × ℕ)
-copies_in es = map copied es
 
 -- the list of a group
 abbrev pub remap_of : ℕ → List EntryNumbers → Result (List RemapEntry) ModelFault

@@ -1,12 +1,13 @@
 // The values of one record.
 
-ghost use Rattle.std.specs.Prelude.{◌≡◌, ◌<◌, length, pos, unwrap_or};
+ghost use Rattle.std.specs.Prelude.{◌≡◌, ◌<◌, length, map, pos, unwrap_or};
+ghost use Rattle.std.specs.Option.{option_copied};
 ghost use Rattle.sk_num.specs.Scale.{IsScale};
 ghost use Rattle.sk_records.specs.Answers.{rows_in};
 ghost use Rattle.sk_records.specs.Blocks.{records};
-ghost use Rattle.sk_records.specs.Rows.{last_number};
+ghost use Rattle.sk_records.specs.Rows.{last_number, last_place, last_value};
 ghost use Rattle.sk_records.specs.MapRows.{entry_lines};
-ghost use Rattle.sk_model.specs.Keys.{key_bytes};
+ghost use Rattle.sk_model.specs.Keys.{key_bytes, key_spot, keys_of};
 ghost use Rattle.sk_model.specs.Fields.{handle_under, whole_under, quantity_under, flag_under, text_under};
 
 use crate::faults::ModelFault;
@@ -15,37 +16,51 @@ use sk_num::{Grid, read_handle, read_quantity, read_whole};
 use sk_records::{Book, MapLines, RecId};
 use std::marker::Model;
 
-/// A record of a book. Contracts see it as its lines.
+/// A record of a book, with the places of the lines that have its keys. Contracts see it as its kind and its lines.
 #[derive(Drop)]
 pub(crate) struct Fields<'b> {
     book: &'b Book,
     rec: RecId,
+    found: &'b [Option<usize>],
 }
 
 impl<'b> Model for Fields<'b> {
-    ghost use Rattle.std.specs.Prelude.{List, ◌<◌, length};
-    ghost use Rattle.sk_records.specs.Rows.{Row};
+    ghost use Rattle.std.specs.Prelude.{◌≡◌, ◌<◌, length, map};
+    ghost use Rattle.sk_records.specs.Rows.{last_place};
     ghost use Rattle.sk_records.specs.Answers.{rows_in};
     ghost use Rattle.sk_records.specs.Blocks.{records};
+    ghost use Rattle.sk_model.specs.Keys.{key_bytes, keys_of};
+    ghost use Rattle.sk_model.specs.Fields.{RecordLines};
 
-    ghost Value = { List Row };
+    ghost Value = { RecordLines };
 
-    ghost view = { λ f. rows_in f.rec f.book.now };
+    ghost view = { λ f. record { kind = f.rec.kind; rows = rows_in f.rec f.book.now } };
 
-    ghost invariant = { λ f. f.rec.place < length (records f.rec.kind f.book.now) };
+    ghost invariant = { λ f. (f.rec.place < length (records f.rec.kind f.book.now))
+        × (f.found.now ≡ map (λ k. last_place (key_bytes k) (rows_in f.rec f.book.now)) (keys_of f.rec.kind)) };
 }
 
 impl<'b> Fields<'b> {
-    /// The record's values.
-    pub(crate) fn of(book: &'b Book, rec: RecId) -> Fields<'b>
+    /// The record's values, by the places of the last lines with its keys.
+    pub(crate) fn of(book: &'b Book, rec: RecId, found: &'b [Option<usize>]) -> Fields<'b>
         requires exists { rec.place < length (records rec.kind book.now) }
-        ensures { result ≡ rows_in rec book.now }
+        requires found { found.now ≡ map (λ k. last_place (key_bytes k) (rows_in rec book.now)) (keys_of rec.kind) }
+        ensures { result ≡ record { kind = rec.kind; rows = rows_in rec book.now } }
     {
-        Fields { book, rec }
+        Fields { book, rec, found }
+    }
+
+    // The value of the last line with a key.
+    fn value(&self, key: Key) -> Option<&'b [u8]>
+        requires kind { (key_spot key).kind ≡ self.now.kind }
+        ensures { option_copied result ≡ last_value (key_bytes key) self.now.rows }
+    {
+        let line = self.found[key.place()];
+        self.book.value_at(self.rec, key.bytes(), line)
     }
 
     fn number_at(&self, key: Key) -> ModelFault
-        ensures { result ≡ ModelFault.NumberAt (unwrap_or (last_number (key_bytes key) self.now) 0) }
+        ensures { result ≡ ModelFault.NumberAt (unwrap_or (last_number (key_bytes key) self.now.rows) 0) }
     {
         ModelFault::NumberAt(self.book.line_of(self.rec, key.bytes()).unwrap_or(0))
     }
@@ -53,9 +68,10 @@ impl<'b> Fields<'b> {
     /// The handle under a key; 0 where the record doesn't have the key.
     #[tactic(auto, unfolding(crate::specs::Fields::handle_under))]
     pub(crate) fn handle(&self, key: Key) -> Result<u32, ModelFault>
-        ensures { result ≡ handle_under key self.now }
+        requires kind { (key_spot key).kind ≡ self.now.kind }
+        ensures { result ≡ handle_under key self.now.rows }
     {
-        let Some(text) = self.book.value(self.rec, key.bytes()) else {
+        let Some(text) = self.value(key) else {
             return Ok(0);
         };
         match read_handle(text) {
@@ -67,9 +83,10 @@ impl<'b> Fields<'b> {
     /// The whole number under a key; 0 where the record doesn't have the key.
     #[tactic(auto, unfolding(crate::specs::Fields::whole_under))]
     pub(crate) fn whole(&self, key: Key) -> Result<i32, ModelFault>
-        ensures { result ≡ whole_under key self.now }
+        requires kind { (key_spot key).kind ≡ self.now.kind }
+        ensures { result ≡ whole_under key self.now.rows }
     {
-        let Some(text) = self.book.value(self.rec, key.bytes()) else {
+        let Some(text) = self.value(key) else {
             return Ok(0);
         };
         match read_whole(text) {
@@ -86,9 +103,10 @@ impl<'b> Fields<'b> {
         absent: Grid<S>,
     ) -> Result<Grid<S>, ModelFault>
         requires scale { IsScale S }
-        ensures { result ≡ quantity_under S absent.entry key self.now }
+        requires kind { (key_spot key).kind ≡ self.now.kind }
+        ensures { result ≡ quantity_under S absent.entry key self.now.rows }
     {
-        let Some(text) = self.book.value(self.rec, key.bytes()) else {
+        let Some(text) = self.value(key) else {
             return Ok(absent);
         };
         match read_quantity(text) {
@@ -100,7 +118,8 @@ impl<'b> Fields<'b> {
     /// The truth value under a key; false where the record doesn't have the key.
     #[tactic(auto, unfolding(crate::specs::Fields::flag_under))]
     pub(crate) fn flag(&self, key: Key) -> Result<bool, ModelFault>
-        ensures { result ≡ flag_under key self.now }
+        requires kind { (key_spot key).kind ≡ self.now.kind }
+        ensures { result ≡ flag_under key self.now.rows }
     {
         let number = self.whole(key)?;
         Ok(number != 0)
@@ -109,9 +128,10 @@ impl<'b> Fields<'b> {
     /// The text under a key; empty where the record doesn't have the key.
     #[tactic(auto, unfolding(crate::specs::Fields::text_under))]
     pub(crate) fn text(&self, key: Key) -> &'b [u8]
-        ensures { result.now ≡ text_under key self.now }
+        requires kind { (key_spot key).kind ≡ self.now.kind }
+        ensures { result.now ≡ text_under key self.now.rows }
     {
-        match self.book.value(self.rec, key.bytes()) {
+        match self.value(key) {
             Some(text) => text,
             None => &[],
         }
@@ -119,7 +139,7 @@ impl<'b> Fields<'b> {
 
     /// The lines of the remap lists.
     pub(crate) fn map_lines(&self) -> MapLines<'b>
-        ensures { result ≡ entry_lines self.now }
+        ensures { result ≡ entry_lines self.now.rows }
     {
         self.book.map_lines(self.rec)
     }

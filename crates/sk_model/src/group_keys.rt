@@ -2,6 +2,7 @@
 
 ghost use Rattle.std.specs.Prelude.{◌≡◌, OnOk, false};
 ghost use Rattle.sk_num.specs.Scale.{IsScale};
+ghost use Rattle.sk_records.specs.declared.kinds.Kind.TheVariants as record_kind;
 ghost use Rattle.sk_model.specs.Chain.{seen_in};
 ghost use Rattle.sk_model.specs.Fields.{is_number};
 ghost use Rattle.sk_model.specs.Groups.{group_keys, accepted_kind, copies_of, kind_of, lacks_subtype, lacks_scale, is_two_sided, is_by_lines, whole_part};
@@ -40,8 +41,9 @@ impl<const S: u32> GroupKeys<S> {
     /// Reads the values in the order of the keys, to the first that doesn't read.
     #[tactic(auto, unfolding(crate::specs::Groups::group_keys))]
     pub(crate) fn read(fields: &Fields<'_>) -> Result<GroupKeys<S>, ModelFault>
-        requires { IsScale S }
-        ensures { result ≡ group_keys S fields.now }
+        requires scale { IsScale S }
+        requires kind { fields.now.kind ≡ record_kind.Group }
+        ensures { result ≡ group_keys S fields.now.rows }
     {
         let zero = Grid::zero();
         let id = fields.handle(Key::GroupHandle)?;

@@ -2,6 +2,7 @@
 
 ghost use Rattle.std.specs.Prelude.{◌≡◌, IfOk, false};
 ghost use Rattle.sk_num.specs.Scale.{IsScale};
+ghost use Rattle.sk_records.specs.declared.kinds.Kind.TheVariants as record_kind;
 ghost use Rattle.sk_model.specs.Chain.{IsAnswer, seen_in};
 ghost use Rattle.sk_model.specs.Groups.{group_of, part_name, part_of};
 ghost use Rattle.sk_model.specs.Lists.{text_of};
@@ -23,8 +24,9 @@ pub(crate) fn group_of<const S: u32>(
     seen: &IndexSet<u32>,
     fields: &Fields<'_>,
 ) -> Result<Group<S>, ModelFault>
-    requires { IsScale S }
-    ensures value { IsAnswer result (group_of S seen.now.keys fields.now) }
+    requires scale { IsScale S }
+    requires kind { fields.now.kind ≡ record_kind.Group }
+    ensures value { IsAnswer result (group_of S seen.now.keys fields.now.rows) }
     ensures new { IfOk result (λ x. seen_in x.id.0 seen.now.keys ≡ false) }
 {
     let keys = GroupKeys::<S>::read(fields)?;
@@ -58,7 +60,8 @@ pub(crate) fn group_of<const S: u32>(
 
 // The name of a linked part as it stands.
 fn part_name<'b>(fields: &Fields<'b>) -> &'b [u8]
-    ensures { result.now ≡ part_name fields.now }
+    requires kind { fields.now.kind ≡ record_kind.Group }
+    ensures { result.now ≡ part_name fields.now.rows }
 {
     let relative = fields.text(Key::GroupRelativeFile);
     if relative.is_empty() {

@@ -1,7 +1,11 @@
 // The keys that are read.
 
-ghost use Rattle.std.specs.Prelude.{◌≡◌};
-ghost use Rattle.sk_model.specs.Keys.{key_bytes};
+ghost use Rattle.std.specs.Prelude.{◌≡◌, ℕ, List, map, IfOk};
+ghost use Rattle.std.specs.Borrow.{Bor};
+ghost use Rattle.sk_model.specs.Keys.{key_bytes, keys_of, key_spot};
+
+use sk_records::Kind;
+use std::alloc::{AllocError, Global};
 
 /// A key of a record that is read, named for what stands under it.
 #[derive(Clone, Copy)]
@@ -107,4 +111,105 @@ impl Key {
             Key::ConstraintReference => b"Constraint.reference",
         }
     }
+
+    /// The key's place among those of its kind of record.
+    pub(crate) fn place(self) -> usize
+        ensures { result ≡ (key_spot self).place }
+    {
+        match self {
+            Key::GroupHandle | Key::ParamHandle | Key::RequestHandle | Key::ConstraintHandle => 0,
+            Key::GroupType | Key::ParamValue | Key::RequestType | Key::ConstraintType => 1,
+            Key::GroupOrder | Key::RequestWorkplane | Key::ConstraintGroup => 2,
+            Key::GroupActive | Key::RequestGroup | Key::ConstraintWorkplane => 3,
+            Key::GroupSource | Key::RequestConstruction | Key::ConstraintValue => 4,
+            Key::GroupValue | Key::RequestExtraPoints | Key::ConstraintPointA => 5,
+            Key::GroupSubtype | Key::ConstraintPointB => 6,
+            Key::GroupSkipFirst | Key::ConstraintEntityA => 7,
+            Key::GroupW | Key::ConstraintEntityB => 8,
+            Key::GroupX | Key::ConstraintEntityC => 9,
+            Key::GroupY | Key::ConstraintEntityD => 10,
+            Key::GroupZ | Key::ConstraintOther => 11,
+            Key::GroupOrigin | Key::ConstraintOther2 => 12,
+            Key::GroupEntityB | Key::ConstraintReference => 13,
+            Key::GroupEntityC => 14,
+            Key::GroupSwapUv => 15,
+            Key::GroupNegateU => 16,
+            Key::GroupNegateV => 17,
+            Key::GroupRelaxed => 18,
+            Key::GroupAllReference => 19,
+            Key::GroupScale => 20,
+            Key::GroupFile => 21,
+            Key::GroupRelativeFile => 22,
+        }
+    }
+}
+
+/// The keys of a kind of record that are read, in their order.
+pub(crate) fn keys_of(kind: Kind) -> &'static [Key]
+    ensures { result.now ≡ keys_of kind }
+{
+    match kind {
+        Kind::Group => &[
+            Key::GroupHandle,
+            Key::GroupType,
+            Key::GroupOrder,
+            Key::GroupActive,
+            Key::GroupSource,
+            Key::GroupValue,
+            Key::GroupSubtype,
+            Key::GroupSkipFirst,
+            Key::GroupW,
+            Key::GroupX,
+            Key::GroupY,
+            Key::GroupZ,
+            Key::GroupOrigin,
+            Key::GroupEntityB,
+            Key::GroupEntityC,
+            Key::GroupSwapUv,
+            Key::GroupNegateU,
+            Key::GroupNegateV,
+            Key::GroupRelaxed,
+            Key::GroupAllReference,
+            Key::GroupScale,
+            Key::GroupFile,
+            Key::GroupRelativeFile,
+        ],
+        Kind::Param => &[Key::ParamHandle, Key::ParamValue],
+        Kind::Request => &[
+            Key::RequestHandle,
+            Key::RequestType,
+            Key::RequestWorkplane,
+            Key::RequestGroup,
+            Key::RequestConstruction,
+            Key::RequestExtraPoints,
+        ],
+        Kind::Constraint => &[
+            Key::ConstraintHandle,
+            Key::ConstraintType,
+            Key::ConstraintGroup,
+            Key::ConstraintWorkplane,
+            Key::ConstraintValue,
+            Key::ConstraintPointA,
+            Key::ConstraintPointB,
+            Key::ConstraintEntityA,
+            Key::ConstraintEntityB,
+            Key::ConstraintEntityC,
+            Key::ConstraintEntityD,
+            Key::ConstraintOther,
+            Key::ConstraintOther2,
+            Key::ConstraintReference,
+        ],
+        Kind::Entity | Kind::Style => &[],
+    }
+}
+
+/// The keys of a kind of record as they stand in a text.
+pub(crate) fn key_table(alloc: Global, kind: Kind) -> Result<Vec<&'static [u8]>, AllocError>
+    ensures { IfOk result (λ v. map (λ (k : Bor (List ℕ)). k.now) v.items ≡ map key_bytes (keys_of kind)) }
+{
+    let mut table = Vec::new(alloc);
+    for key in keys_of(kind) {
+        table.push(key.bytes())?;
+    }
+    Ok(table)
 }

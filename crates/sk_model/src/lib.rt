@@ -18,5 +18,5 @@ mod whole;
 mod writing;
 
 pub use faults::{ModelFault, Reason, What};
-pub use model::Model;
+pub use model::{Model, NoMemory};
 pub use remap::GroupList;

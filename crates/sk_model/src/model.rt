@@ -1,26 +1,32 @@
 // Models: a book with its typed lists.
 
-ghost use Rattle.std.specs.Prelude.{◌≡◌, ◌≢◌, ◌++◌, ◌==◌, ℕ, OnOk, OnErr, IfOk, Ok, Some, if◌then◌else◌, map, true};
+ghost use Rattle.std.specs.Prelude.{◌≡◌, ◌≢◌, ◌++◌, ◌==◌, ℕ, OnOk, OnErr, IfOk, Ok, Some, if◌then◌else◌, map, true, nat_eq};
+ghost use Rattle.std.specs.List.{All, IsDistinct};
 ghost use Rattle.sk_num.specs.Scale.{IsScale};
-ghost use Rattle.sk_types.specs.Lookups.{value_of};
+ghost use Rattle.sk_types.specs.declared.entity.ParamValue.{ParamValue as TypedParam};
+ghost use Rattle.sk_types.specs.Lookups.{value_handle, value_of};
 ghost use Rattle.sk_records.specs.Written.{bytes_of};
 ghost use Rattle.sk_model.specs.Chain.{IsAnswer, seen_in};
 ghost use Rattle.sk_model.specs.Typed.{typed, group_handle};
-ghost use Rattle.sk_model.specs.Changes.{param_set, with_param, remap_set, with_remap};
-ghost use Rattle.sk_model.specs.Settable.{IsRemapList};
+ghost use Rattle.sk_model.specs.Changes.{param_set, with_param, params_set, with_params, remap_set, with_remap, list_handle, lists_set, with_lists};
+ghost use Rattle.sk_model.specs.Settable.{IsRemapList, IsGroupList};
 ghost use Rattle.sk_model.specs.Checked.{AreChecked};
 ghost use Rattle.sk_model.specs.Models.{lists_of, IsTyped};
 
-use crate::changes::{put_list, put_param};
+use crate::changes::{put_list, put_lists, put_params};
 use crate::copying::copy_groups;
 use crate::faults::ModelFault;
-use crate::listed::{Listed, constraints_of, groups_of, params_of, requests_of};
+use crate::listed::{Listed, type_all};
+use crate::remap::GroupList;
 use crate::whole::whole_fault;
 use indexmap::IndexSet;
 use sk_num::Grid;
 use sk_records::Book;
 use sk_types::{Constraint, Group, GroupId, ParamId, ParamValue, RemapEntry, Request};
 use std::alloc::{AllocError, Global};
+
+/// Want of memory.
+pub type NoMemory = AllocError;
 
 /// The typed model of a book.
 ///
@@ -75,13 +81,13 @@ impl<const S: u32> Model<S> {
         let Listed {
             items: groups,
             handles: group_handles,
-        } = groups_of(alloc, &book)?;
+        } = type_all::<Group<S>>(alloc, &book)?;
         let Listed {
             items: params,
             handles: param_handles,
-        } = params_of(alloc, &book)?;
-        let requests = requests_of(alloc, &book)?.items;
-        let constraints = constraints_of(alloc, &book)?.items;
+        } = type_all::<ParamValue<S>>(alloc, &book)?;
+        let requests = type_all::<Request>(alloc, &book)?.items;
+        let constraints = type_all::<Constraint<S>>(alloc, &book)?.items;
         if let Some(fault) = whole_fault(&groups, &requests, &constraints) {
             return Err(fault);
         }
@@ -108,21 +114,24 @@ impl<const S: u32> Model<S> {
 
     /// The groups in file order.
     pub fn groups(&self) -> &[Group<S>]
-        ensures { result.now ≡ self.now.lists.groups }
+        ensures groups { result.now ≡ self.now.lists.groups }
+        ensures checked { AreChecked self.now.lists }
     {
         &self.groups
     }
 
     /// The requests in file order.
     pub fn requests(&self) -> &[Request]
-        ensures { result.now ≡ self.now.lists.requests }
+        ensures requests { result.now ≡ self.now.lists.requests }
+        ensures checked { AreChecked self.now.lists }
     {
         &self.requests
     }
 
     /// The constraints in file order.
     pub fn constraints(&self) -> &[Constraint<S>]
-        ensures { result.now ≡ self.now.lists.constraints }
+        ensures constraints { result.now ≡ self.now.lists.constraints }
+        ensures checked { AreChecked self.now.lists }
     {
         &self.constraints
     }
@@ -136,7 +145,7 @@ impl<const S: u32> Model<S> {
     }
 
     /// An equal model.
-    pub fn copy(&self, alloc: Global) -> Result<Model<S>, AllocError>
+    pub fn copy(&self, alloc: Global) -> Result<Model<S>, NoMemory>
         ensures { IfOk result (λ m. m ≡ self.now) }
     {
         Ok(Model {
@@ -154,7 +163,7 @@ impl<const S: u32> Model<S> {
     /// already, no byte changes. At an `Err` the model is as it was.
     ///
     /// The value is written with 20 decimals, as `quantity_text` gives it.
-    pub fn set_param(&mut self, p: ParamId, v: Grid<S>) -> Result<(), AllocError>
+    pub fn set_param(&mut self, p: ParamId, v: Grid<S>) -> Result<(), NoMemory>
         requires scale { IsScale S }
         requires some { p.0 ≢ 0 }
         ensures blocks { OnOk result (self.new.blocks ≡ param_set p.0 v.entry self.old.lists.params self.old.blocks) }
@@ -162,18 +171,32 @@ impl<const S: u32> Model<S> {
         ensures values { OnOk result ((q : ℕ) → value_of q self.new.lists.params ≡ (if q == p.0 then Some v.entry else value_of q self.old.lists.params)) }
         ensures err { OnErr result (self.new ≡ self.old) }
     {
-        put_param(
+        self.set_params(&[ParamValue { id: p, value: v }])
+    }
+
+    /// Sets the values of parameters, as `set_param` one after the other: those that stand get their values, and the
+    /// others are added in one list, in the given order. At an `Err` the model is as it was.
+    ///
+    /// Each parameter is given once.
+    pub fn set_params(&mut self, values: &[ParamValue<S>]) -> Result<(), NoMemory>
+        requires scale { IsScale S }
+        requires some { All (λ (q : TypedParam S). q.id.0 ≢ 0) values.now }
+        requires distinct { IsDistinct nat_eq (map value_handle values.now) }
+        ensures blocks { OnOk result (self.new.blocks ≡ params_set values.now self.old.lists.params self.old.blocks) }
+        ensures lists { OnOk result (self.new.lists ≡ record self.old.lists { params = with_params values.now self.old.lists.params }) }
+        ensures err { OnErr result (self.new ≡ self.old) }
+    {
+        put_params(
             &mut self.book,
             &mut self.params,
             &mut self.param_handles,
-            p.0,
-            v,
+            values,
         )
     }
 
     /// Sets the remap list of a group: in the place of the first list of its record, whose further lists go. At an
     /// `Err` the model is as it was.
-    pub fn set_remap(&mut self, g: GroupId, list: &[RemapEntry]) -> Result<(), AllocError>
+    pub fn set_remap(&mut self, g: GroupId, list: &[RemapEntry]) -> Result<(), NoMemory>
         requires exists { seen_in g.0 (map group_handle self.old.lists.groups) ≡ true }
         requires list { IsRemapList g.0 list.now }
         ensures blocks { OnOk result (self.new.blocks ≡ remap_set g.0 list.now self.old.lists.groups self.old.blocks) }
@@ -184,8 +207,22 @@ impl<const S: u32> Model<S> {
         put_list(&mut self.book, &mut self.groups, place, g.0, list)
     }
 
+    /// Sets the remap lists of groups, one after the other, each as by `set_remap` where it grew: where it is longer
+    /// than the list that stands. At an `Err` the model is as it was.
+    ///
+    /// Each group is given once.
+    pub fn set_remaps(&mut self, lists: Vec<GroupList>) -> Result<(), NoMemory>
+        requires lists { All (IsGroupList self.old.lists.groups) lists.items }
+        requires distinct { IsDistinct nat_eq (map list_handle lists.items) }
+        ensures blocks { OnOk result (self.new.blocks ≡ lists_set lists.items self.old.lists.groups self.old.blocks) }
+        ensures lists { OnOk result (self.new.lists ≡ record self.old.lists { groups = with_lists lists.items self.old.lists.groups }) }
+        ensures err { OnErr result (self.new ≡ self.old) }
+    {
+        put_lists(&mut self.book, &mut self.groups, &self.group_handles, lists)
+    }
+
     /// Appends the text. At an `Err` nothing is appended.
-    pub fn write(&self, alloc: Global, out: &mut Vec<u8>) -> Result<(), AllocError>
+    pub fn write(&self, alloc: Global, out: &mut Vec<u8>) -> Result<(), NoMemory>
         ensures ok { OnOk result (out.new.items ≡ out.old.items ++ bytes_of self.now.blocks) }
         ensures err { OnErr result (out.new.items ≡ out.old.items) }
     {

@@ -2,6 +2,7 @@
 
 ghost use Rattle.std.specs.Prelude.{◌≡◌, IfOk, false};
 ghost use Rattle.sk_num.specs.Scale.{IsScale};
+ghost use Rattle.sk_records.specs.declared.kinds.Kind.TheVariants as record_kind;
 ghost use Rattle.sk_model.specs.Chain.{seen_in};
 ghost use Rattle.sk_model.specs.Params.{param_of};
 
@@ -18,8 +19,9 @@ pub(crate) fn param_of<const S: u32>(
     seen: &IndexSet<u32>,
     fields: &Fields<'_>,
 ) -> Result<ParamValue<S>, ModelFault>
-    requires { IsScale S }
-    ensures value { result ≡ param_of S seen.now.keys fields.now }
+    requires scale { IsScale S }
+    requires kind { fields.now.kind ≡ record_kind.Param }
+    ensures value { result ≡ param_of S seen.now.keys fields.now.rows }
     ensures new { IfOk result (λ x. seen_in x.id.0 seen.now.keys ≡ false) }
 {
     let id = fields.handle(Key::ParamHandle)?;

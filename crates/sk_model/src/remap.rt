@@ -4,7 +4,8 @@ ghost use Rattle.std.specs.Prelude.{◌≡◌, List, Some, None, if◌then◌els
 ghost use Rattle.std.specs.List.{list_any};
 ghost use Rattle.sk_records.specs.MapLent.{lent_entry};
 ghost use Rattle.sk_model.specs.Chain.{IsAnswer, seen_in};
-ghost use Rattle.sk_model.specs.Remap.{entry_numbers, all_numbers, remap_of, first_word, after_word, until_space, from_space, after_spaces, is_in_range, remap_entry, entry_over, same_copy, copied};
+ghost use Rattle.sk_model.specs.Remap.{entry_numbers, all_numbers, remap_of, first_word, after_word, until_space, from_space, after_spaces, is_in_range, remap_entry, entry_over};
+ghost use Rattle.sk_types.specs.Copies.{copied, same_copy};
 ghost use Rattle.sk_model.specs.Lists.{items_of};
 
 use crate::faults::ModelFault;

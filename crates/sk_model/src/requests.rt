@@ -1,6 +1,7 @@
 // Requests.
 
 ghost use Rattle.std.specs.Prelude.{◌≡◌, IfOk, false};
+ghost use Rattle.sk_records.specs.declared.kinds.Kind.TheVariants as record_kind;
 ghost use Rattle.sk_model.specs.Chain.{seen_in};
 ghost use Rattle.sk_model.specs.Requests.{request_of};
 
@@ -16,7 +17,8 @@ const MOST_EXTRA: i32 = 8;
 /// A request, over the handles of earlier ones, or its first fault.
 #[tactic(auto, unfolding(crate::specs::Requests::request_of))]
 pub(crate) fn request_of(seen: &IndexSet<u32>, fields: &Fields<'_>) -> Result<Request, ModelFault>
-    ensures value { result ≡ request_of seen.now.keys fields.now }
+    requires kind { fields.now.kind ≡ record_kind.Request }
+    ensures value { result ≡ request_of seen.now.keys fields.now.rows }
     ensures new { IfOk result (λ x. seen_in x.id.0 seen.now.keys ≡ false) }
 {
     let id = fields.handle(Key::RequestHandle)?;

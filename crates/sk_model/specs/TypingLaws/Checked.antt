@@ -1,10 +1,11 @@
 -- What typing leaves, link by link of each chain.
-use Rattle.std.proofs.Common.{◌≡◌, ◌≢◌, ℕ, ◌≤◌, ◌<◌, ◌^◌, List, [], ◌∷◌, ◌++◌, length, map, Bool, true, false, nat_eq, nat_lt, Option, Some, None, Result, Ok, Err, refl, subst, sym, ap, ◌∙◌, arith}
-use Rattle.std.specs.Prelude.{◌==◌, ◌||◌, ◌&&◌, not, ℤ, pos, negsuc, unsigned_abs}
+use Rattle.std.proofs.Common.{◌≡◌, ◌≢◌, inl, inr, ℕ, ◌≤◌, List, [], ◌∷◌, ◌++◌, length, map, Bool, true, false, nat_eq, nat_lt, Option, Some, None, Result, Ok, Err, refl, subst, sym, ap, ◌∙◌, arith}
+use Rattle.std.specs.Prelude.{◌==◌, ◌||◌, ◌&&◌, not, ℤ, pos, negsuc, nat_le, unsigned_abs}
 use Rattle.std.specs.Option.{option_map, option_or}
 use Rattle.std.specs.List.{All, AllByRecursion, IsDistinct, list_any}
-use Rattle.std.proofs.lemmas.Bool.{ltb-false, leb-true, eqb-true, eq-eqb}
+use Rattle.std.proofs.lemmas.Bool.{cases_Bool, ltb-false, leb-true, eqb-true, eq-eqb}
 use Rattle.std.proofs.lemmas.Bool.Decides.{nat_tests}
+use Rattle.std.proofs.lemmas.List.{map-append}
 use Rattle.std.proofs.lemmas.List.Elements.{All-nil, All-cons, All-from_recursion}
 use Rattle.sk_num.specs.Limit.{IsInLimit}
 use Rattle.sk_types.specs.declared.handle.EntityId.{EntityId}
@@ -35,17 +36,18 @@ use Rattle.sk_model.specs.declared.remap.EntryNumbers.{EntryNumbers}
 use Rattle.sk_model.specs.declared.keys.Key.{Key}
 use Rattle.sk_model.specs.declared.keys.Key.TheVariants as key
 use Rattle.sk_model.specs.Keys.{key_bytes}
-use Rattle.sk_model.specs.Chain.{then_of, refused, by_standing, is_out_of, seen_in, all_of}
-use Rattle.sk_model.specs.Fields.{read_at, value_as, read_under, handle_under, whole_under, quantity_under, flag_under, is_number}
-use Rattle.sk_model.specs.Groups.{group_of, group_keys, group_with, accepted_kind, copies_of, few_copies, whole_part, part_of, part_name}
-use Rattle.sk_model.specs.Remap.{entry_numbers, all_numbers, remap_of, entry_over, remap_entry, is_in_range, is_within, numbers_in, copies_in, copied, same_copy, first_word, after_word}
+use Rattle.sk_model.specs.Chain.{by_standing, is_out_of, seen_in, all_of}
+use Rattle.sk_model.specs.Fields.{read_at, value_as, handle_under, whole_under, quantity_under, flag_under, is_number}
+use Rattle.sk_model.specs.Groups.{group_of, group_keys, accepted_kind, copies_of, few_copies, whole_part, part_of, part_name}
+use Rattle.sk_model.specs.Remap.{entry_numbers, all_numbers, remap_of, entry_over, remap_entry, is_in_range, is_within, numbers_in, first_word, after_word}
+use Rattle.sk_types.specs.Copies.{copies_in, copied, same_copy}
 use Rattle.sk_model.specs.Params.{param_of}
 use Rattle.sk_model.specs.Requests.{most_extra, is_extra, request_of}
 use Rattle.sk_model.specs.Constraints.{constraint_of, has_bad_value}
 use Rattle.sk_model.specs.Typed.{Typed, typed, group_handle, request_handle, constraint_handle, whole_fault, fault_if, is_first_group, missing_of, stray_request, stray_constraint}
 use Rattle.sk_model.specs.Changes.{numbers_of}
 use Rattle.sk_model.specs.Settable.{IsSettable, IsRemapList, HasSources}
-use Rattle.sk_model.specs.Checked.{IsHandle, IsCheckedGroup, IsCheckedRequest, IsCheckedConstraint, AreChecked}
+use Rattle.sk_model.specs.Checked.{IsHandle, IsCheckedEntry, IsCheckedList, IsCheckedGroup, IsCheckedRequest, IsCheckedConstraint, AreChecked}
 use Rattle.sk_model.specs.TypingLaws.Chains.{then_parts, refused_passed, ok_inj}
 use Rattle.sk_model.specs.TypingLaws.TypedParts.{parts_of}
 use Rattle.sk_num.specs.SpellingLaws.{quantity-fits, handle-fits}
@@ -61,28 +63,34 @@ either_false : (a b : Bool) → (a || b) ≡ false → (a ≡ false) × (b ≡ f
 either_false true b e = cc
 either_false false b e = (refl, e)
 
-seen_onto : (k m : ℕ) (seen : List ℕ) → seen_in k (seen ++ m ∷ []) ≡ false → (seen_in k seen ≡ false) × (nat_eq k m ≡ false)
-seen_onto k m [] e = (refl, (either_false (nat_eq k m) false e).0)
-seen_onto k m (n ∷ ns) e =
-    let parts = either_false (nat_eq k n) (seen_in k (ns ++ m ∷ [])) e in
-    let rest = seen_onto k m ns parts.1 in
-    (rw (parts.0, rest.0) refl, rest.1)
-
 eq_flips : (n m : ℕ) → nat_eq n m ≡ false → nat_eq m n ≡ false
 eq_flips n m e = grind (arith, e)
 
-module _ {R T : Type 0} (kept : T → ℕ) (one : List ℕ → R → Result T ModelFault) (P : T → Type 0) (gives : (seen : List ℕ) (r : R) (x : T) → one seen r ≡ Ok x → (seen_in (kept x) seen ≡ false) × P x) where
-  abbrev AreNew : List ℕ → List T → Type 0
-  AreNew seen xs = AllByRecursion P xs × IsDistinct nat_eq (map kept xs) × AllByRecursion (λ k. seen_in k seen ≡ false) (map kept xs)
+-- what is kept of earlier things has keys, of which none is that of a later thing
+module _ {R T X K : Type 0} (kept : T → X) (one : List X → R → Result T ModelFault) (key : T → K) (keys : List X → List K) (same : K → K → Bool) (P : T → Type 0)
+    (grows : (seen : List X) (x : T) → keys (seen ++ kept x ∷ []) ≡ keys seen ++ key x ∷ []) (flips : (a b : K) → same a b ≡ false → same b a ≡ false)
+    (gives : (seen : List X) (r : R) (x : T) → one seen r ≡ Ok x → (list_any (same (key x)) (keys seen) ≡ false) × P x) where
+  abbrev IsNewAmong : List K → K → Type 0
+  IsNewAmong ks k = list_any (same k) ks ≡ false
 
-  parted : (m : ℕ) (seen ks : List ℕ) → AllByRecursion (λ k. seen_in k (seen ++ m ∷ []) ≡ false) ks → AllByRecursion (λ k. nat_eq m k ≡ false) ks × AllByRecursion (λ k. seen_in k seen ≡ false) ks
-  parted m seen [] h = (tt, tt)
-  parted m seen (k ∷ ks) h =
-      let parts = seen_onto k m seen h.0 in
-      let rest = parted m seen ks h.1 in
-      ((eq_flips k m parts.1, rest.0), (parts.0, rest.1))
+  abbrev AreNew : List X → List T → Type 0
+  AreNew seen xs = AllByRecursion P xs × IsDistinct same (map key xs) × AllByRecursion (IsNewAmong (keys seen)) (map key xs)
 
-  all_new : (seen : List ℕ) (rs : List R) (xs : List T) → all_of kept one seen rs ≡ Ok xs → AreNew seen xs
+  new_onto : (k m : K) (ks : List K) → IsNewAmong (ks ++ m ∷ []) k → IsNewAmong ks k × (same k m ≡ false)
+  new_onto k m [] e = (refl, (either_false (same k m) false e).0)
+  new_onto k m (n ∷ ns) e =
+      let parts = either_false (same k n) (list_any (same k) (ns ++ m ∷ [])) e in
+      let rest = new_onto k m ns parts.1 in
+      (rw (parts.0, rest.0) refl, rest.1)
+
+  parted : (m : K) (before ks : List K) → AllByRecursion (IsNewAmong (before ++ m ∷ [])) ks → AllByRecursion (λ k. same m k ≡ false) ks × AllByRecursion (IsNewAmong before) ks
+  parted m before [] h = (tt, tt)
+  parted m before (k ∷ ks) h =
+      let parts = new_onto k m before h.0 in
+      let rest = parted m before ks h.1 in
+      ((flips k m parts.1, rest.0), (parts.0, rest.1))
+
+  all_new : (seen : List X) (rs : List R) (xs : List T) → all_of kept one seen rs ≡ Ok xs → AreNew seen xs
   unfolding IsDistinct
   all_new seen [] xs e = subst (AreNew seen) (ok_inj e) (tt, tt, tt)
   all_new seen (r ∷ rs) xs e =
@@ -90,11 +98,16 @@ module _ {R T : Type 0} (kept : T → ℕ) (one : List ℕ → R → Result T Mo
       then_parts (all_of kept one (seen ++ kept x ∷ []) rs) _ xs e1 (λ ys eys e2.
       (let known = gives seen r x ex in
       let more = all_new (seen ++ kept x ∷ []) rs ys eys in
-      let parts = parted (kept x) seen (map kept ys) more.2 in
+      let parts = parted (key x) (keys seen) (map key ys) (subst (λ (l : List K). AllByRecursion (IsNewAmong l) (map key ys)) (grows seen x) more.2) in
       subst (AreNew seen) (ok_inj e2) ((known.1, more.0), (parts.0, more.1), (known.0, parts.1)))))
 
-  pub all_checked : (rs : List R) (xs : List T) → all_of kept one [] rs ≡ Ok xs → All P xs × IsDistinct nat_eq (map kept xs)
-  all_checked rs xs e = let new = all_new [] rs xs e in (All-from_recursion P xs new.0, new.1)
+  pub all_apart : (seen : List X) (rs : List R) (xs : List T) → all_of kept one seen rs ≡ Ok xs → All P xs × IsDistinct same (map key xs)
+  all_apart seen rs xs e = let new = all_new seen rs xs e in (All-from_recursion P xs new.0, new.1)
+
+-- things of a kind, each new among those before it
+pub all_checked : {R T : Type 0} (handle : T → ℕ) (one : List ℕ → R → Result T ModelFault) (P : T → Type 0) → ((seen : List ℕ) (r : R) (x : T) → one seen r ≡ Ok x → (seen_in (handle x) seen ≡ false) × P x) →
+    (rs : List R) (xs : List T) → all_of handle one [] rs ≡ Ok xs → All P xs × IsDistinct nat_eq (map handle xs)
+all_checked handle one P gives rs xs e = all_apart handle one handle (λ (l : List ℕ). l) nat_eq P (λ seen x. refl) eq_flips gives [] rs xs e
 
 -- ---- numbers in range
 
@@ -146,6 +159,10 @@ both_true : (a b : Bool) → (a && b) ≡ true → (a ≡ true) × (b ≡ true)
 both_true true b e = (refl, e)
 both_true false b e = cc
 
+within_bounds : (least most : ℕ) (z : ℤ) → is_within (pos least) (pos most) z ≡ true → (least ≤ unsigned_abs z) × (unsigned_abs z ≤ most)
+within_bounds least most (pos n) e = let parts = both_true (nat_le least n) (nat_le n most) e in (leb-true least n parts.0, leb-true n most parts.1)
+within_bounds least most (negsuc n) e = cc
+
 not_false : (t : Bool) → not t ≡ false → t ≡ true
 not_false true e = refl
 not_false false e = cc
@@ -193,6 +210,37 @@ all_read (l ∷ ls) es h =
     then_parts (entry_numbers l) _ es h (λ e ee h1.
     then_parts (all_numbers ls) _ es h1 (λ more em h2.
     subst (AllByRecursion (λ (x : EntryNumbers). IsHandle x.source)) (ok_inj h2) (numbers_read l e ee, all_read ls more em)))
+
+-- an entry is in range, and new by its number and by its copy
+entry_new : (id : ℕ) (seen : List RemapEntry) (e : EntryNumbers) (x : RemapEntry) → entry_over id (numbers_in seen) (copies_in seen) e ≡ Ok x →
+    (seen_in x.number (numbers_in seen) ≡ false) × (list_any (same_copy (copied x)) (copies_in seen) ≡ false) × IsCheckedEntry x
+unfolding entry_over
+entry_new id seen e x h =
+    let a = refused_passed (not (is_in_range e)) (BadValue id) _ x h in
+    let b = refused_passed (seen_in (remap_entry e).number (numbers_in seen)) (BadValue id) _ x a.1 in
+    let c = refused_passed (list_any (same_copy (copied (remap_entry e))) (copies_in seen)) (BadValue id) _ x b.1 in
+    let parts = both_true (is_within (pos 1) (pos 65535) e.number) (is_within (pos 0) (pos 65535) e.copy) (not_false (is_in_range e) a.0) in
+    let number = within_bounds 1 65535 e.number parts.0 in
+    let copy = within_bounds 0 65535 e.copy parts.1 in
+    subst (λ (y : RemapEntry). (seen_in y.number (numbers_in seen) ≡ false) × (list_any (same_copy (copied y)) (copies_in seen) ≡ false) × IsCheckedEntry y) (ok_inj c.1)
+    (b.0, c.0, record { least = number.0; most = number.1; copy = copy.1 })
+
+copy_flips : (a b : ℕ × ℕ) → same_copy a b ≡ false → same_copy b a ≡ false
+copy_flips a b e = flipped (nat_eq a.0 b.0) (nat_eq b.0 a.0) (nat_eq a.1 b.1) (nat_eq b.1 a.1) (eq_same a.0 b.0) (eq_same a.1 b.1) e
+  where
+    eq_same : (n m : ℕ) → nat_eq n m ≡ nat_eq m n
+    eq_same n m = elim (cases_Bool (nat_eq n m)) [ inl t ↦ t ∙ sym (eq-eqb m n (sym (eqb-true n m t))) | inr f ↦ f ∙ sym (eq_flips n m f) ]
+
+    flipped : (p q r t : Bool) → p ≡ q → r ≡ t → (p && r) ≡ false → (q && t) ≡ false
+    flipped p q r t e f h = rw (← e, ← f) h
+
+list_checked : (id : ℕ) (es : List EntryNumbers) (xs : List RemapEntry) → remap_of id es ≡ Ok xs → IsCheckedList xs
+list_checked id es xs h =
+    let numbers = all_apart (λ (e : RemapEntry). e) (λ before e. entry_over id (numbers_in before) (copies_in before) e) (λ (e : RemapEntry). e.number) numbers_in nat_eq IsCheckedEntry
+    (λ seen x. map-append (λ (e : RemapEntry). e.number) seen (x ∷ [])) eq_flips (λ seen e x ex. (let new = entry_new id seen e x ex in (new.0, new.2))) [] es xs h in
+    let copies = all_apart (λ (e : RemapEntry). e) (λ before e. entry_over id (numbers_in before) (copies_in before) e) copied copies_in same_copy IsCheckedEntry
+    (λ seen x. map-append copied seen (x ∷ [])) copy_flips (λ seen e x ex. (let new = entry_new id seen e x ex in (new.1, new.2))) [] es xs h in
+    record { entries = numbers.0; numbers_differ = numbers.1; copies_differ = copies.1 }
 
 list_back : (id : ℕ) (es : List EntryNumbers) (xs : List RemapEntry) → AllByRecursion (λ (e : EntryNumbers). IsHandle e.source) es → remap_of id es ≡ Ok xs → IsRemapList id xs × HasSources xs
 list_back id es xs read h = let parts = entries_back id [] es xs read h in (ap (remap_of id) parts.0 ∙ h, parts.1)
@@ -271,6 +319,7 @@ group_checked s seen rows g e =
         most = bounds.1;
         copies = copies_passed s k.id kind k.value copies ecopies;
         list = list.0;
+        entries = list_checked k.id numbers remap eremap;
         sources = list.1;
         active = handles.active;
         source = handles.source;

@@ -1,17 +1,11 @@
 -- Remap lists, as they are written.
-use Rattle.std.proofs.Common.{◌≡◌, inl, ℕ, ◌+◌, ◌<◌, ◌≤◌, ◌^◌, List, [], ◌∷◌, ◌++◌, map, length, true, false, Some, Ok, refl, sym, ap, ◌∙◌, append_assoc, arith, take, get_or}
-use Rattle.std.proofs.lemmas.List.{append-nil, map-append, take_more, take_all}
-use Rattle.std.proofs.lemmas.Grind.{flat_map-append}
-use Rattle.std.proofs.lemmas.Bool.{lt-ltb}
-use Rattle.std.specs.Prelude.{pos, codes}
-use Rattle.std.specs.Int.{is_negative}
-use Rattle.std.specs.Fmt.{decimal}
+use Rattle.std.proofs.Common.{◌≡◌, inl, ℕ, ◌<◌, ◌^◌, List, [], ◌∷◌, ◌++◌, map, length, true, Some, Ok, refl, sym, ap, ◌∙◌, arith}
+use Rattle.std.proofs.lemmas.List.{append-nil}
+use Rattle.std.specs.Prelude.{codes}
 use Rattle.std.specs.List.{All}
-use Rattle.std.proofs.lemmas.List.Elements.{All-head, All-tail, All-push}
-use Rattle.sk_num.specs.Numerals.{numeral, padded}
+use Rattle.std.proofs.lemmas.List.Elements.{All-head, All-tail}
 use Rattle.sk_num.specs.SpellingLaws.{handle-read_back, whole-read_back}
-use Rattle.sk_num.specs.Spelling.{whole_of, handle_of}
-use Rattle.sk_text.specs.Lines.{TextLine, line_bytes, joined, lines_in, AreLines}
+use Rattle.sk_text.specs.Lines.{TextLine, joined, lines_in, AreLines}
 use Rattle.sk_text.specs.LineLaws.{lines_again}
 use Rattle.sk_types.specs.declared.group.RemapEntry.{RemapEntry}
 use Rattle.sk_records.specs.Classes as Classes

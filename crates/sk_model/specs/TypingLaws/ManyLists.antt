@@ -1,8 +1,8 @@
 -- Remap lists that are set one after the other.
-use Rattle.std.proofs.Common.{◌≡◌, inl, inr, ℕ, ◌<◌, ◌^◌, List, [], ◌∷◌, ◌++◌, length, map, Bool, true, false, cond, nat_eq, nat_lt, Ok, refl, sym, ap, ◌∙◌, subst, arith}
-use Rattle.std.specs.Prelude.{◌==◌, if◌then◌else◌, pos, int_le, ◌&&◌, not, unsigned_abs}
-use Rattle.std.specs.List.{All, AllByRecursion, IsDistinct, list_any, position_or_len, filter_map}
-use Rattle.std.proofs.lemmas.Bool.{cases_Bool, eqb-true, eq-eqb, le-ltb}
+use Rattle.std.proofs.Common.{◌≡◌, inl, inr, ℕ, ◌<◌, ◌^◌, List, [], ◌∷◌, ◌++◌, length, map, Bool, true, false, nat_eq, nat_lt, Ok, refl, sym, ap, ◌∙◌, subst, arith}
+use Rattle.std.specs.Prelude.{pos, int_le, ◌&&◌, not}
+use Rattle.std.specs.List.{All, AllByRecursion, IsDistinct, position_or_len}
+use Rattle.std.proofs.lemmas.Bool.{cases_Bool, eqb-true, le-ltb}
 use Rattle.std.proofs.lemmas.List.Elements.{All-nil, All-cons, All-head, All-tail}
 use Rattle.std.proofs.lemmas.Map.Keys.{IsDistinct-head, IsDistinct-tail}
 use Rattle.sk_text.specs.Lines.{TextLine, joined}
@@ -16,15 +16,15 @@ use Rattle.sk_records.specs.Written.{IsText}
 use Rattle.sk_records.specs.Given.{list_row}
 use Rattle.sk_records.specs.Laws.{texts_law}
 use Rattle.sk_model.specs.declared.remap.GroupList.{GroupList}
-use Rattle.sk_model.specs.declared.remap.EntryNumbers.{EntryNumbers}
 use Rattle.sk_model.specs.declared.faults.ModelFault.TheVariants.{BadValue}
-use Rattle.sk_model.specs.Chain.{seen_in, all_of, refused}
-use Rattle.sk_model.specs.Remap.{remap_of, entry_over, remap_entry, is_in_range, is_within, numbers_in, copies_in, copied, same_copy}
+use Rattle.sk_model.specs.Chain.{seen_in, all_of}
+use Rattle.sk_model.specs.Remap.{entry_over, is_in_range, is_within, numbers_in}
+use Rattle.sk_types.specs.Copies.{copies_in}
 use Rattle.sk_model.specs.Typed.{Typed, typed, group_handle}
-use Rattle.sk_model.specs.Changes.{with_remap, remap_set, list_lines, numbers_of, list_in, grew, with_list, list_set, with_lists, lists_set, list_handle, grown, list_change, list_changes}
+use Rattle.sk_model.specs.Changes.{with_remap, remap_set, list_lines, numbers_of, list_in, grew, with_list, list_set, with_lists, lists_set, list_handle, grown, list_changes}
 use Rattle.sk_model.specs.Settable.{IsRemapList, IsGroupList, HasSources}
 use Rattle.sk_model.specs.WrittenLines.{IsEntryText, IsListText}
-use Rattle.sk_model.specs.TypingLaws.Chains.{then_parts, refused_passed, ok_inj}
+use Rattle.sk_model.specs.TypingLaws.Chains.{then_parts, refused_passed}
 use Rattle.sk_model.specs.TypingLaws.ListTexts.{entry_is, list_is}
 use Rattle.sk_model.specs.TypingLaws.RemapSet.{handles_kept, list_typed}
 

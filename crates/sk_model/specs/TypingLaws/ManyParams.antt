@@ -1,9 +1,9 @@
 -- Parameters that are set one after the other.
-use Rattle.std.proofs.Common.{◌≡◌, ◌⊎◌, inl, inr, ℕ, zero, suc, ◌<◌, List, [], ◌∷◌, ◌++◌, map, length, Bool, true, false, cond, nat_eq, Option, Some, None, Result, Ok, refl, sym, ap, ◌∙◌, subst, append_assoc}
-use Rattle.std.specs.Prelude.{ℤ, ◌==◌, if◌then◌else◌}
-use Rattle.std.specs.Option.{option_or, is_none}
+use Rattle.std.proofs.Common.{◌≡◌, inl, inr, ℕ, zero, suc, ◌<◌, List, [], ◌∷◌, ◌++◌, map, length, true, false, nat_eq, Option, Some, None, Ok, refl, sym, ap, ◌∙◌, subst, append_assoc}
+use Rattle.std.specs.Prelude.{ℤ}
+use Rattle.std.specs.Option.{option_or}
 use Rattle.std.specs.Ordering.{int_eq}
-use Rattle.std.specs.List.{All, AllByRecursion, IsDistinct, position, position_or_len, filter, filter_map}
+use Rattle.std.specs.List.{All, AllByRecursion, IsDistinct, position}
 use Rattle.std.proofs.lemmas.Bool.{cases_Bool, eqb-true, eq-eqb, ne_eqb}
 use Rattle.std.proofs.lemmas.Bool.Decides.{Decides-int_eq}
 use Rattle.std.proofs.lemmas.List.{append-nil, length-map}
@@ -17,14 +17,14 @@ use Rattle.sk_types.specs.Lookups.{value_handle, value_of}
 use Rattle.sk_records.specs.declared.kinds.Kind.TheVariants as kind
 use Rattle.sk_records.specs.Rows.{Row, with_value}
 use Rattle.sk_records.specs.Blocks.{Block, Rec, AllOf, records, changed_at, on_record, add_records}
-use Rattle.sk_records.specs.ChangeLists.{Change, all_changed}
+use Rattle.sk_records.specs.ChangeLists.{all_changed}
 use Rattle.sk_records.specs.Written.{IsText}
 use Rattle.sk_records.specs.Laws.{records_law, added_law, texts_law}
 use Rattle.sk_model.specs.declared.keys.Key.TheVariants as key
 use Rattle.sk_model.specs.Keys.{key_bytes}
 use Rattle.sk_model.specs.Typed.{Typed, typed}
 use Rattle.sk_model.specs.Settable.{IsSettable, ReadsBack, IsStored}
-use Rattle.sk_model.specs.Changes.{with_param, new_record, is_value, value_put, param_set, with_params, params_set, absent, change_at, change_of, value_changes}
+use Rattle.sk_model.specs.Changes.{with_param, new_record, is_value, value_put, param_set, with_params, params_set, absent, value_changes}
 use Rattle.sk_model.specs.TypingLaws.Lookups.{Standing, position_missing, position_standing, position_front}
 use Rattle.sk_model.specs.TypingLaws.ParamSet.{value_after, stands_same, new_at_end, handles_same, set_typed}
 use Rattle.sk_model.specs.TypingLaws.ParamTexts.{value_key, quantity_value, params_given}

@@ -1,5 +1,5 @@
 -- The records that are added for parameters, as they are written.
-use Rattle.std.proofs.Common.{◌≡◌, ℕ, List, [], ◌∷◌, map, Ok, refl, sym, ap, ◌∙◌}
+use Rattle.std.proofs.Common.{◌≡◌, ℕ, List, [], ◌∷◌, map, Ok, refl, ap, ◌∙◌}
 use Rattle.std.specs.Prelude.{ℤ}
 use Rattle.std.specs.List.{All}
 use Rattle.std.proofs.lemmas.List.Elements.{All-head, All-tail}
@@ -13,7 +13,7 @@ use Rattle.sk_records.specs.Given.{IsKey, IsValue, AreRecords, given_records}
 use Rattle.sk_records.specs.Laws.{IsGiven, ArePairs, given_law}
 use Rattle.sk_model.specs.declared.keys.Key.TheVariants as key
 use Rattle.sk_model.specs.Keys.{key_bytes}
-use Rattle.sk_model.specs.Changes.{param_record, new_record}
+use Rattle.sk_model.specs.Changes.{new_record}
 use Rattle.sk_model.specs.Settable.{ReadsBack}
 use Rattle.sk_model.specs.TypingLaws.Digits.{handle_digits}
 use Rattle.sk_model.specs.TypingLaws.CleanTexts.{clean_hex, clean_value, quantity_clean}

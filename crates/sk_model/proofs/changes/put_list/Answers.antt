@@ -1,7 +1,7 @@
 use Rattle.std.proofs.Common.{◌∙◌}
 use Rattle.sk_model.proofs.ModelSet.{groups_handles}
 use Rattle.sk_model.proofs.Places.{group_placed, list_placed}
-use Rattle.sk_model.proofs.ListParts.{text_sources}
+use Rattle.sk_model.proofs.ListsSteps.{text_sources}
 use Rattle.sk_model.proofs.changes.put_list.Goals as goal
 
 pub returns-clause-book : goal.returns-clause-book

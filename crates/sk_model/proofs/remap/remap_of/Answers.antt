@@ -3,7 +3,7 @@ use Rattle.std.proofs.lemmas.Result.{err_from_is_err_and}
 use Rattle.sk_model.proofs.Steps.{keys_grown}
 use Rattle.sk_model.proofs.RemapSteps.{entries_step, entries_fault}
 use Rattle.sk_types.specs.declared.group.RemapEntry.{RemapEntry}
-use Rattle.sk_model.specs.Remap.{copied}
+use Rattle.sk_types.specs.Copies.{copied}
 use Rattle.sk_model.proofs.remap.remap_of.Goals as goal
 
 pub returns-in_err-entry : goal.returns-in_err-entry

@@ -1,5 +1,6 @@
 use Rattle.std.proofs.Common.{◌≡◌}
-use Rattle.sk_model.specs.Remap.{remap_of, numbers_in, copies_in}
+use Rattle.sk_types.specs.Copies.{copies_in}
+use Rattle.sk_model.specs.Remap.{remap_of, numbers_in}
 use Rattle.sk_model.proofs.RemapSteps.{RestOfEntries}
 use Rattle.sk_model.proofs.remap.remap_of.Given as goal
 

@@ -1,5 +1,5 @@
 use Rattle.sk_model.specs.WrittenLines.{IsEntryText}
-use Rattle.sk_model.proofs.ListParts.{all_more}
+use Rattle.sk_model.proofs.ManySteps.{all_more}
 use Rattle.sk_model.proofs.ListWritten.{fed_step, fed_end}
 use Rattle.sk_model.proofs.writing.list_text.Goals as goal
 

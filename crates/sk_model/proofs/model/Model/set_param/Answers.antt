@@ -1,16 +1,12 @@
-use Rattle.std.proofs.Common.{arith}
-use Rattle.sk_model.specs.TypingLaws.TypedParts.{param_count}
-use Rattle.sk_model.proofs.ModelSet.{handles_after, param_typed_after, values_after}
+use Rattle.std.proofs.Common.{ap, arith}
+use Rattle.sk_model.specs.Typed.{Typed}
+use Rattle.sk_model.proofs.Outcomes.{on_ok}
+use Rattle.sk_model.proofs.ModelSet.{one_distinct, one_some, values_after}
 use Rattle.sk_model.proofs.model.Model.set_param.Goals as goal
 
-pub put_param-requires : goal.put_param-requires
-put_param-requires g c = (omega arith, (omega arith, (c.requires.scale, (c.self.invariant.1.of_params, param_count g.row.S c.self.inside.book _ c.self.invariant.0))))
+pub set_params-requires : goal.set_params-requires
+set_params-requires g c = (omega arith, (omega arith, (c.requires.scale, (one_some (record { id = c.args.p; value = c.args.v }) c.requires.some, one_distinct c.args.p.0))))
 
 pub returns-clause-values : goal.returns-clause-values
-returns-clause-values g c = rw (← c.self.view_is) (values_after c.put_param.result c.args.p.0 c.args.v c.self.inside.params.items c.put_param.new.params.items c.put_param.ensures.params)
-
-pub invariant_of-self : goal.invariant_of-self
-invariant_of-self g c = (
-  param_typed_after c.put_param.result c.self.inside.book c.put_param.new.book _ c.self.invariant.0 c.requires.scale c.args.p.0 c.args.v c.put_param.new.params.items c.requires.some c.put_param.ensures.fits c.put_param.ensures.small c.put_param.ensures.book c.put_param.ensures.err_book c.put_param.ensures.params c.put_param.ensures.err_params,
-  record { of_groups = c.self.invariant.1.of_groups; of_params = handles_after c.put_param.result c.self.inside.param_handles.keys c.put_param.new.handles.keys c.self.inside.params.items c.put_param.new.params.items c.self.invariant.1.of_params c.put_param.ensures.handles c.put_param.ensures.err_handles c.put_param.ensures.err_params },
-)
+returns-clause-values g c =
+    values_after c.set_params.result c.args.p.0 c.args.v c.args.self.now.lists.params c.set_params.new.self.lists.params (on_ok c.set_params.result (λ e. ap (λ (l : Typed g.row.S). l.params) e) c.set_params.ensures.lists)
