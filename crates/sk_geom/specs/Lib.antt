@@ -1,0 +1,9 @@
+pub mod Sources
+pub mod Quaternions
+pub mod EntityTrees
+pub mod LineFrame
+pub mod Views
+pub mod RangeLaws
+pub mod WholeLaws
+pub mod LineFrameLaws
+pub mod Examples
