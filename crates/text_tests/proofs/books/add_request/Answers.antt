@@ -2,7 +2,7 @@ use Rattle.std.proofs.Common.{refl, inl, [], ◌∷◌, Some}
 use Rattle.std.specs.Prelude.{codes}
 use Rattle.sk_text.specs.Lines as Text
 use Rattle.sk_records.specs.declared.kinds.Kind.TheVariants.{Request}
-use Rattle.sk_records.specs.Rows.{Plain}
+use Rattle.sk_records.specs.declared.rows.Role.TheVariants.{Plain}
 use Rattle.sk_records.specs.Classes as Classes
 use Rattle.sk_records.specs.Laws.TextKept.{no_feed}
 use Rattle.text_tests.proofs.books.add_request.Goals as goal

@@ -3,7 +3,7 @@ use Rattle.std.specs.Prelude.{codes}
 use Rattle.sk_text.specs.Lines as Text
 use Rattle.sk_records.specs.declared.kinds.Kind.{Kind}
 use Rattle.sk_records.specs.declared.kinds.Kind.TheVariants.{Constraint}
-use Rattle.sk_records.specs.Rows.{Plain}
+use Rattle.sk_records.specs.declared.rows.Role.TheVariants.{Plain}
 use Rattle.sk_records.specs.ChangeLists.{KindChanges}
 use Rattle.sk_records.specs.Classes as Classes
 use Rattle.sk_records.specs.Given.{AreRecords}
