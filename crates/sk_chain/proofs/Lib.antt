@@ -6,4 +6,3 @@ pub mod Rising
 pub mod Places
 pub mod Made
 pub mod Counted
-pub mod Checked

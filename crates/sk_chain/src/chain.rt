@@ -6,7 +6,7 @@ ghost use Rattle.sk_types.specs.Lookups.{Rise};
 ghost use Rattle.sk_types.specs.Params.{OwnFit};
 ghost use Rattle.sk_model.specs.Chain.{IsAnswer};
 ghost use Rattle.sk_model.specs.Typed.{is_space_kind};
-ghost use Rattle.sk_chain.specs.Known.{AreConstraints, AreGroups, AreRequests, place_handle};
+ghost use Rattle.sk_chain.specs.Known.{AreConstraints, AreGroups, place_handle};
 ghost use Rattle.sk_chain.specs.Order.{group_order};
 ghost use Rattle.sk_chain.specs.Outlines.{all_made, entities_fault, groups_fault, outlined};
 
@@ -23,16 +23,6 @@ use sk_num::Items;
 use sk_types::{Entity, GroupId, Outline};
 use std::alloc::{AllocError, Global};
 
-// What typing leaves: handles that differ and are in range, and kinds that are accepted.
-fn typing_holds<const S: u32>(model: &Model<S>)
-    ensures few { length model.now.lists.groups ≤ 1000 }
-    ensures groups { AreGroups model.now.lists.groups }
-    ensures requests { AreRequests model.now.lists.requests }
-    ensures constraints { AreConstraints model.now.lists.constraints }
-{
-    let _book = model.book();
-}
-
 /// The groups in their order: group 1 first, then the others by rising order, ties by rising handle.
 pub fn order_groups<const S: u32>(
     alloc: Global,
@@ -40,7 +30,6 @@ pub fn order_groups<const S: u32>(
 ) -> Result<Vec<GroupId>, AllocError>
     ensures { IfOk result (λ v. v.items ≡ group_order model.now.lists.groups) }
 {
-    typing_holds(model);
     order_of(alloc, model.groups())
 }
 
@@ -99,7 +88,6 @@ pub fn outline<const S: u32>(alloc: Global, model: &mut Model<S>) -> Result<Outl
     ensures model { model.new ≡ model.old }
 {
     let model = &*model;
-    typing_holds(model);
     let order = order_of(alloc, model.groups())?;
     let places = places_of(alloc, &order)?;
     if let Some(fault) = groups_fault(model, &places) {

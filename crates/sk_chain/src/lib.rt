@@ -11,6 +11,3 @@ mod order;
 mod sizes;
 
 pub use chain::{order_groups, outline};
-
-#[cfg(test)]
-mod tests;
