@@ -16,11 +16,11 @@ use Rattle.sk_types.specs.declared.entity.ParamValue.{ParamValue}
 use Rattle.sk_types.specs.Params.{own_params}
 use Rattle.sk_types.specs.Lookups.{value_of}
 use Rattle.sk_model.specs.Typed.{Typed}
-use Rattle.sk_krawczyk.specs.declared.distance.Small.{Small}
+use Rattle.sk_distance.specs.declared.distance.Small.{Small}
 use Rattle.sk_krawczyk.specs.SoundBox.{IsSoundBox}
-use Rattle.sk_krawczyk.specs.PlacedBox.{placed_distance, AreFourPlaces}
-use Rattle.sk_krawczyk.specs.PlacedLaws.{placed_distance-sound, still-sound}
-use Rattle.sk_krawczyk.specs.FreeLaws.{free-passes}
+use Rattle.sk_distance.specs.PlacedBox.{placed_distance, AreFourPlaces}
+use Rattle.sk_distance.specs.PlacedLaws.{placed_distance-sound, still-sound}
+use Rattle.sk_distance.specs.FreeLaws.{free-passes}
 use Rattle.sk_app.specs.DistanceTest.{distance_test}
 use Rattle.sk_app.specs.declared.fault.Refusal.{Refusal}
 use Rattle.sk_app.specs.declared.report.Certified.{Certified}

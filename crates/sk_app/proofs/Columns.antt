@@ -7,7 +7,7 @@ use Rattle.sk_types.specs.declared.entity.Entity.{Entity}
 use Rattle.sk_types.specs.declared.constraint.Constraint.{Constraint}
 use Rattle.sk_types.specs.Needs.{named}
 use Rattle.sk_types.specs.Params.{own_params}
-use Rattle.sk_krawczyk.specs.PlacedBox.{AreFourPlaces}
+use Rattle.sk_distance.specs.PlacedBox.{AreFourPlaces}
 use Rattle.sk_app.specs.Certified.{point_column, both, columns_of, first_plane, four_columns}
 
 -- how many unknowns the entities have

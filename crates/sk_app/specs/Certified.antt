@@ -14,7 +14,7 @@ use Rattle.sk_types.specs.Lookups.{value_of}
 use Rattle.sk_types.specs.Needs.{named}
 use Rattle.sk_types.specs.Params.{own_params}
 use Rattle.sk_model.specs.Typed.{Typed}
-use Rattle.sk_krawczyk.specs.declared.distance.Small.{Small}
+use Rattle.sk_distance.specs.declared.distance.Small.{Small}
 use Rattle.sk_app.specs.declared.fault.StageFault.TheVariants.{NotYet}
 use Rattle.sk_app.specs.declared.fault.Refusal.{Refusal}
 use Rattle.sk_app.specs.declared.fault.Refusal.TheVariants.{Stage}

@@ -7,11 +7,11 @@ use Rattle.sk_types.specs.declared.constraint.Constraint.{Constraint}
 use Rattle.sk_types.specs.declared.entity.Entity.{Entity}
 use Rattle.sk_types.specs.declared.entity.ParamValue.{ParamValue}
 use Rattle.sk_files.specs.Taken.{Takes}
-use Rattle.sk_krawczyk.specs.declared.distance.Small.{Small}
-use Rattle.sk_krawczyk.specs.IntervalTest.{passes, interval_test}
+use Rattle.sk_distance.specs.declared.distance.Small.{Small}
+use Rattle.sk_distance.specs.IntervalTest.{passes, interval_test}
 use Rattle.sk_krawczyk.specs.SoundBox.{IsSoundBox}
-use Rattle.sk_krawczyk.specs.PlacedBox.{still_box, placed_distance}
-use Rattle.sk_krawczyk.specs.FreeSystem.{free_system, free_certificate}
+use Rattle.sk_distance.specs.PlacedBox.{still_box, placed_distance}
+use Rattle.sk_distance.specs.FreeSystem.{free_system, free_certificate}
 use Rattle.sk_app.specs.DistanceTest.{distance_test}
 use Rattle.sk_app.specs.declared.report.Certified.{Certified}
 use Rattle.sk_app.specs.Certified.{members, stored_point, is_distance_in, columns_of, coordinates, four_columns, solved_column, not_yet, certified_in, reported_groups, all_certified}

@@ -9,7 +9,7 @@ ghost use Rattle.sk_app.specs.DistanceTest.{distance_test};
 use crate::SCALE;
 use crate::fault::{StageFault, Stop};
 use crate::report::Certified;
-use sk_krawczyk::{Small, try_distance};
+use sk_distance::{Small, try_distance};
 use sk_model::Model;
 use sk_num::{Grid, Items};
 use sk_types::{

@@ -1,12 +1,14 @@
--- The square system that elimination leaves at a point, the radii of a box round the point, and the matrices over the box
+-- The square system of retained rows in solved columns, the radii of a box round the point, and the matrices over the box
 -- (Krawczyk's operator, in Neumaier, Interval Methods for Systems of Equations, chapter 5). Numbers are counts of units.
-use Rattle.std.specs.Prelude.{◌==◌, ℕ, zero, suc, ◌+◌, ◌*◌, ◌^◌, max, List, [], ◌∷◌, map, length, get_or, ℤ, pos, ◌+ℤ◌, ◌-ℤ◌, Option, nat_le, if◌then◌else◌}
+use Rattle.std.specs.Prelude.{◌==◌, ℕ, zero, suc, ◌+◌, ◌*◌, ◌^◌, List, map, length, get_or, ℤ, pos, ◌+ℤ◌, ◌-ℤ◌, Option, nat_le, if◌then◌else◌}
 use Rattle.std.specs.List.{enumerate_from}
 use Rattle.sk_num.specs.Ends.{Ends, point, mag}
 use Rattle.sk_expr.specs.Poly.{Poly, number}
 use Rattle.sk_expr.specs.SpanValue.{span_value, span_slope}
 use Rattle.sk_expr.specs.System.{SystemAt}
 use Rattle.sk_elim.specs.Elimination.{Elimination}
+use Rattle.sk_elim.specs.Result.{joined}
+use Rattle.sk_matrix.specs.Cells.{number_cell}
 use Rattle.sk_matrix.specs.Matrix.{dot, product, points, one_less}
 
 -- as many solved columns as retained rows, and the approximate inverse of their matrix of slopes
@@ -18,14 +20,26 @@ pub record SquareSystem : Type 0 where
   pub row : ℕ → Poly ℤ
   pub inverse : ℕ → ℕ → ℤ
 
-abbrev pub square_system : SystemAt → Elimination → SquareSystem
-square_system v e = record {
+-- held and solved columns, retained rows and suspects, and the approximate inverse of the slopes of retained rows in solved
+-- columns, row by row
+pub record Basis : Type 0 where
+  pub held : List ℕ
+  pub solved : List ℕ
+  pub retained : List ℕ
+  pub suspects : List ℕ
+  pub inverse : List ℤ
+
+abbrev pub basis_of : Elimination → Basis
+basis_of e = record { held = e.held; solved = e.solved; retained = e.retained; suspects = e.suspects; inverse = joined e.inverse }
+
+abbrev pub square_system : SystemAt → Basis → SquareSystem
+square_system v b = record {
   centre = v.unknowns;
   cosines = v.cosines;
-  size = length e.solved;
-  column = λ j. get_or e.solved j 0;
-  row = λ i. get_or v.rows (get_or e.retained i 0) (number (pos 0));
-  inverse = λ j i. get_or (get_or e.inverse j []) i (pos 0);
+  size = length b.solved;
+  column = λ j. get_or b.solved j 0;
+  row = λ i. get_or v.rows (get_or b.retained i 0) (number (pos 0));
+  inverse = number_cell (length b.solved) b.inverse;
 }
 
 -- F(x), and Y F(x): Newton's step, which is taken from the point
@@ -40,15 +54,13 @@ abbrev pub least_exponent : ℕ → ℕ → ℕ
 least_exponent zero n = 4
 least_exponent (suc k) n = if nat_le n (2 ^ (4 + k)) then least_exponent k n else 5 + k
 
--- the greatest absolute end of a list of spans
-abbrev pub greatest_mag : List Ends → ℕ
-greatest_mag [] = 0
-greatest_mag (e ∷ es) = max (mag e) (greatest_mag es)
+-- the radius of a column is 2^e units, the least power of two that is at least 16 units and at least twice both absolute ends of
+-- the column's step; an end is at most 2^62 units, so an exponent from 4 to 64 is found
+unfoldable pub radius_exponent : Ends → ℕ
+radius_exponent e = least_exponent 60 (2 * mag e)
 
--- the radius is 2^e units, the least power of two that is at least 16 units and at least twice every absolute end of the
--- step; an end is at most 2^62 units, so its double is at most 2^64
-unfoldable pub radius_exponent : List Ends → ℕ
-radius_exponent step = least_exponent 60 (2 * greatest_mag step)
+abbrev pub radius_of : Ends → ℕ
+radius_of e = 2 ^ radius_exponent e
 
 -- f j at the column of the place j, d at any other
 abbrev pub at_column : {A : Type 0} → ℕ → (ℕ → ℕ) → (ℕ → A) → A → ℕ → A

@@ -1,53 +1,30 @@
 -- Where the interval test of a system passes, the box of its certificate is sound.
-use Rattle.std.proofs.Common.{◌≡◌, ℕ, zero, suc, ◌<◌, ◌≤◌, ◌*◌, ◌/◌, ◌^◌, ap, sym, ◌∙◌, refl, subst, List, [], ◌∷◌, ◌++◌, length, map, get_or, ℤ, pos, ◌-ℤ◌, ◌<ℤ◌, arith, ◌⊎◌, inl, inr, Option, Some, None, Bool, true, false, cond, ◌&&◌, ◌||◌}
+use Rattle.std.proofs.Common.{◌+◌, ◌≡◌, ℕ, zero, suc, ◌<◌, ◌≤◌, ap, sym, ◌∙◌, refl, subst, List, [], ◌∷◌, ◌++◌, length, map, get_or, ℤ, pos, ◌-ℤ◌, ◌<ℤ◌, arith, ◌⊎◌, inl, inr, Option, Some, None, Bool, true, false, cond, ◌&&◌, ◌||◌, Ok}
 use Rattle.std.specs.List.{All, list_all, filter, range_with_len}
 use Rattle.std.specs.Int.{is_negative, is_positive}
 use Rattle.std.proofs.lemmas.Int.{ints}
 use Rattle.std.proofs.lemmas.Nat.{pow_pos}
+use Rattle.std.proofs.lemmas.List.{length-map}
 use Rattle.std.proofs.lemmas.List.Elements.{All-nil, All-cons, All-head, All-tail}
 use Rattle.sk_num.specs.Ends.{Ends}
 use Rattle.sk_expr.specs.Poly.{Poly, number, IsInRange}
 use Rattle.sk_expr.specs.SpanValue.{span_value}
 use Rattle.sk_expr.specs.System.{SystemAt, ForcedPivot}
-use Rattle.sk_elim.specs.Elimination.{Elimination}
 use Rattle.sk_num.specs.Each.{cons_if, each_some}
+use Rattle.sk_num.specs.EachLaws.{each_some-length}
+use Rattle.sk_elim.specs.Elimination.{Elimination, eliminate}
 use Rattle.sk_elim.specs.PivotLaws.{AreApart, eliminate-square}
-use Rattle.sk_elim.specs.EliminationLaws.{HasSolved, eliminate-solved, filter_range-below, filter_range-differ}
+use Rattle.sk_elim.specs.EliminationLaws.{eliminate-solved, filter_range-below, filter_range-differ}
 use Rattle.sk_matrix.specs.MatrixLaws.{and-second}
 use Rattle.sk_matrix.specs.Cells.{listed}
-use Rattle.std.proofs.Math.Nat.{mul-le-mul_right}
-use Rattle.sk_krawczyk.specs.Box.{SquareSystem, square_system, at_column, reach, box}
-use Rattle.sk_krawczyk.specs.IntervalTest.{Certificate, radii, passes, interval_test, slopes_at, forced_pairs, is_computed, conditions, suspect_spans, is_off_zero, are_lengths_positive, is_near, is_step_small, is_left_small, is_right_small, greatest, least, radius_ratio, suspects_of, length_columns, certificate, bound, spread}
+use Rattle.sk_krawczyk.specs.Box.{SquareSystem, Basis, basis_of, square_system, newton_step, radius_exponent, radius_of, at_column, reach, box}
+use Rattle.sk_krawczyk.specs.IntervalTest.{Certificate, radius_at, passes, met, box_test, newton_steps, interval_test, slopes_at, forced_pairs, is_computed, conditions, suspect_spans, is_off_zero, are_lengths_positive, are_near, is_step_small, is_left_small, is_right_small, radius_ratio, suspects_of, length_columns, certificate, bound, spread}
 use Rattle.sk_krawczyk.specs.SoundBox.{ClaimedBox, IsSoundBox}
 use Rattle.sk_krawczyk.specs.SquareLaws.{IsWell}
-use Rattle.sk_krawczyk.specs.SoundLaws.{test-passes, IsMissed, IsLength, box-sound, get_or-listed, All-listed}
-use Rattle.sk_krawczyk.specs.PassedLaws.{interval_test-passed}
+use Rattle.sk_krawczyk.specs.SoundLaws.{test-passes, IsMissed, IsLength, box-sound}
+use Rattle.sk_krawczyk.specs.PassedLaws.{box_test-passed, interval_test-passed}
+use Rattle.sk_krawczyk.specs.RatioLaws.{IsPower, radius_ratio-bounds}
 use Rattle.sk_krawczyk.specs.CertifiedBox.{row_at, missed_rows, certified_box}
-
--- ---- radii
-
-least-positive : (r : ℕ) (rs : List ℕ) → 0 < r → All (λ x. 0 < x) rs → 0 < least r rs
-least-positive r [] h a = h
-least-positive r (t ∷ rs) h a =
-    let i = least-positive t rs (All-head (λ x. 0 < x) t rs a) (All-tail (λ x. 0 < x) t rs a) in
-    omega (arith, i)
-
-least-most : (r : ℕ) (rs : List ℕ) → least r rs ≤ r
-least-most r [] = omega arith
-least-most r (t ∷ rs) = omega arith
-
-one-le-quotient : (a b : ℕ) → 0 < b → b ≤ a → 1 ≤ a / b
-one-le-quotient a b h k = pick (a / b) refl
-  where
-    pick : (q : ℕ) → a / b ≡ q → 1 ≤ q
-    pick zero e = let z : b * (a / b) ≡ 0 = rw e (omega arith) in absurd (omega (arith, z))
-    pick (suc q) e = omega arith
-
-pub radius_ratio-positive : (rs : List ℕ) → All (λ x. 0 < x) rs → 1 ≤ radius_ratio rs
-radius_ratio-positive [] a = omega arith
-radius_ratio-positive (r ∷ rs) a =
-    let p = least-positive r rs (All-head (λ x. 0 < x) r rs a) (All-tail (λ x. 0 < x) r rs a) in
-    one-le-quotient (greatest (r ∷ rs)) (least r rs) p (omega (arith, least-most r rs))
 
 -- ---- lists by place
 
@@ -111,7 +88,7 @@ module _ (s : ℕ) (v : SystemAt) (q : SquareSystem) (r : ℕ → ℕ) where
       let z = is_positive-is (get_or q.centre (get_or cs i d) (pos 0) -ℤ pos (reach q r (get_or cs i d))) p in
       record { inside = inside i d l; above = omega (arith, ints, z) }
 
-lengths-inside : (n : ℕ) (fs : List ForcedPivot) → All (λ f. f.column < n) fs → All (λ c. c < n) (map (λ f. f.column) (filter (λ f. f.is_length) fs))
+pub lengths-inside : (n : ℕ) (fs : List ForcedPivot) → All (λ f. f.column < n) fs → All (λ c. c < n) (map (λ f. f.column) (filter (λ f. f.is_length) fs))
 lengths-inside n [] h = All-nil (λ c. c < n)
 lengths-inside n (f ∷ fs) h = pick f.is_length (All-head (λ f. f.column < n) f fs h) (lengths-inside n fs (All-tail (λ f. f.column < n) f fs h))
   where
@@ -126,83 +103,62 @@ row-in u o [] i h = tt
 row-in u o (t ∷ ts) zero h = All-head (IsInRange u o) t ts h
 row-in u o (t ∷ ts) (suc i) h = row-in u o ts i (All-tail (IsInRange u o) t ts h)
 
-module _ (s : ℕ) (v : SystemAt) (e : Elimination) (k : ℕ) (spans : List Ends) (some : 1 ≤ s)
-    (rows : All (IsInRange (length v.unknowns) (length v.cosines)) v.rows) (forced : All (λ f. f.column < length v.unknowns) v.forced) (solved : HasSolved (length v.unknowns) e)
-    (square : length e.solved ≡ length e.retained) where
-  q : SquareSystem
-  q = square_system v e
+-- what a test over a box has to be given: columns in range, no two the same; as many rows and as many radii; each radius a power of two
+pub record IsUsable (v : SystemAt) (b : Basis) (radii : List ℕ) : Type 0 where
+  pub rows_in : All (IsInRange (length v.unknowns) (length v.cosines)) v.rows
+  pub forced_in : All (λ f. f.column < length v.unknowns) v.forced
+  pub columns_in : (j : ℕ) → j < length b.solved → get_or b.solved j 0 < length v.unknowns
+  pub columns_differ : (i j : ℕ) → i < length b.solved → j < length b.solved → get_or b.solved i 0 ≡ get_or b.solved j 0 → i ≡ j
+  pub as_many_rows : length b.solved ≡ length b.retained
+  pub as_many_radii : length radii ≡ length b.solved
+  pub powers : All IsPower radii
 
-  r : ℕ → ℕ
-  r = radii (length e.solved) k
-
-  radius-is : (j : ℕ) → j < length e.solved → r j ≡ 2 ^ k
-  unfolding r
-  radius-is j l = get_or-listed (length e.solved) j (λ j. 2 ^ k) 0 l
-
-  well : IsWell (square_system v e) (radii (length e.solved) k)
-  unfolding r
+module _ (s : ℕ) (v : SystemAt) (b : Basis) (radii : List ℕ) (spans : List Ends) (some : 1 ≤ s) (usable : IsUsable v b radii) where
+  well : IsWell (square_system v b) (radius_at radii)
   well = record {
-    columns_in = λ j l.
-        let b = filter_range-below solved.taken 0 (length v.unknowns) j 0 (subst (λ (xs : List ℕ). j < length xs) solved.are l) in
-        let h : get_or (filter solved.taken (range_with_len 0 (length v.unknowns))) j 0 < length v.unknowns = omega (arith, b) in
-        subst (λ (xs : List ℕ). get_or xs j 0 < length v.unknowns) (sym solved.are) h;
-    columns_differ = λ i j l o h.
-        filter_range-differ solved.taken (length v.unknowns) i j 0 (subst (λ (xs : List ℕ). i < length xs) solved.are l) (subst (λ (xs : List ℕ). j < length xs) solved.are o)
-        (subst (λ (xs : List ℕ). get_or xs i 0 ≡ get_or xs j 0) solved.are h);
-    rows_in = λ i l. row-in (length v.unknowns) (length v.cosines) v.rows (get_or e.retained i 0) rows;
-    radii = λ j l. let z = radius-is j l in rw z (pow_pos k);
+    columns_in = usable.columns_in;
+    columns_differ = usable.columns_differ;
+    rows_in = λ i l. row-in (length v.unknowns) (length v.cosines) v.rows (get_or b.retained i 0) usable.rows_in;
+    radii = λ j l. let p = usable.powers j 0 (omega (arith, l, usable.as_many_radii)) in omega (arith, p.is, pow_pos p.exponent);
   }
-
-  ratios : (i j : ℕ) → i < length e.solved → j < length e.solved → radii (length e.solved) k j ≤ radius_ratio (listed (length e.solved) (λ j. 2 ^ k)) * radii (length e.solved) k i
-  unfolding r
-  ratios i j l o =
-      let a = radius-is i l in
-      let b = radius-is j o in
-      let p = radius_ratio-positive (listed (length e.solved) (λ j. 2 ^ k)) (All-listed (λ x. 0 < x) (length e.solved) (λ j. 2 ^ k) (λ i l. pow_pos k)) in
-      let m = mul-le-mul_right (2 ^ k) p in
-      rw (a, b) (omega (arith, m))
 
   claimed : List (Poly ℤ) → ClaimedBox
   claimed retained = record {
     centre = v.unknowns;
-    reach = λ u. at_column (length e.solved) (λ j. get_or e.solved j 0) (radii (length e.solved) k) 0 u;
+    reach = λ u. at_column (length b.solved) (λ j. get_or b.solved j 0) (radius_at radii) 0 u;
     cosines = v.cosines;
     retained = retained;
-    missed = missed_rows v (suspects_of e.suspects spans);
+    missed = missed_rows v (suspects_of b.suspects spans);
     lengths = length_columns v;
-    bound = bound s (square_system v e) (radii (length e.solved) k);
-    spread = spread s (square_system v e) (radii (length e.solved) k) (radius_ratio (listed (length e.solved) (λ j. 2 ^ k)));
+    bound = bound s (square_system v b) (radius_at radii);
+    spread = spread s (square_system v b) (radius_at radii) (radius_ratio radii);
   }
 
-  pub certificate-sound : is_computed s (square_system v e) (radii (length e.solved) k) ≡ true → conditions s (square_system v e) (radii (length e.solved) k) (length_columns v) ≡ true →
-      suspect_spans s v (box (square_system v e) (radii (length e.solved) k)) e.suspects ≡ Some spans →
-      IsSoundBox s (certified_box v (certificate s (square_system v e) e k (suspects_of e.suspects spans)))
+  pub certificate-sound : is_computed s (square_system v b) (radius_at radii) ≡ true → conditions s (square_system v b) radii (length_columns v) ≡ true →
+      suspect_spans s v (box (square_system v b) (radius_at radii)) b.suspects ≡ Some spans →
+      IsSoundBox s (certified_box v (certificate s v b radii (suspects_of b.suspects spans)))
   unfolding claimed
-  certificate-sound computed met there =
-      let q = square_system v e in
-      let r = radii (length e.solved) k in
-      let above = and-second (is_near s q r && is_step_small s q r && is_left_small s q r && is_right_small s q r) (are_lengths_positive q r (length_columns v)) met in
-      let ratio = radius_ratio (listed (length e.solved) (λ j. 2 ^ k)) in
-      let box_sound = box-sound s q r ratio (missed_rows v (suspects_of e.suspects spans)) (length_columns v) some well (test-passes s q r (length_columns v) computed met) ratios
-      (missed-all s v q r e.suspects spans there) (lengths-all s v q r (length_columns v) (lengths-inside (length v.unknowns) v.forced forced) above) in
-      let same : listed (length e.solved) (λ i. row_at v (get_or e.retained i 0)) ≡ map (row_at v) e.retained =
-      ap (λ m. listed m (λ i. row_at v (get_or e.retained i 0))) square ∙ listed-map e.retained (row_at v) 0 in
+  certificate-sound computed all_met there =
+      let q = square_system v b in
+      let r = radius_at radii in
+      let above = and-second (are_near s radii && is_step_small s q r && is_left_small s q r && is_right_small s q r) (are_lengths_positive q r (length_columns v)) all_met in
+      let ratios = λ (i j : ℕ) (l : i < length b.solved) (o : j < length b.solved).
+      radius_ratio-bounds radii usable.powers i j 0 (omega (arith, l, usable.as_many_radii)) (omega (arith, o, usable.as_many_radii)) in
+      let box_sound = box-sound s q r (radius_ratio radii) (missed_rows v (suspects_of b.suspects spans)) (length_columns v) some well (test-passes s q radii (length_columns v) computed all_met) ratios
+      (missed-all s v q r b.suspects spans there) (lengths-all s v q r (length_columns v) (lengths-inside (length v.unknowns) v.forced usable.forced_in) above) in
+      let same : listed (length b.solved) (λ i. row_at v (get_or b.retained i 0)) ≡ map (row_at v) b.retained =
+      ap (λ m. listed m (λ i. row_at v (get_or b.retained i 0))) usable.as_many_rows ∙ listed-map b.retained (row_at v) 0 in
       subst (λ (ts : List (Poly ℤ)). IsSoundBox s (claimed ts)) same box_sound
 
-columns-in : (n : ℕ) (fs : List ForcedPivot) → AreApart (λ p. p.1) n (map (λ f. (f.row, f.column)) fs) → All (λ f. f.column < n) fs
+-- where the test over a box is met, the box of the certificate is sound
+pub box_test-sound : (s : ℕ) (v : SystemAt) (b : Basis) (radii : List ℕ) (c : Certificate) → 1 ≤ s → IsUsable v b radii → box_test s v b radii ≡ met c → IsSoundBox s (certified_box v c)
+box_test-sound s v b radii c some usable h =
+    let p = box_test-passed s v b radii c h in
+    subst (λ (c : Certificate). IsSoundBox s (certified_box v c)) p.is (certificate-sound s v b radii p.spans some usable p.computed p.all_met p.spans_are)
+
+pub columns-in : (n : ℕ) (fs : List ForcedPivot) → AreApart (λ p. p.1) n (map (λ f. (f.row, f.column)) fs) → All (λ f. f.column < n) fs
 columns-in n [] h = All-nil (λ f. f.column < n)
 columns-in n (f ∷ fs) h = All-cons (λ f. f.column < n) f fs h.0 (columns-in n fs h.2)
-
-each_some-length : {A B : Type 0} (f : A → Option B) (xs : List A) (ys : List B) → each_some f xs ≡ Some ys → length ys ≡ length xs
-each_some-length f [] [] h = refl
-each_some-length f [] (y ∷ ys) h = absurd cc
-each_some-length f (x ∷ xs) [] h = no_head (f x) (each_some f xs) h
-  where
-    no_head : {B : Type 0} (o : Option B) (us : Option (List B)) → cons_if o us ≡ Some [] → 0 ≡ length (x ∷ xs)
-    no_head None us h = absurd cc
-    no_head (Some z) None h = absurd cc
-    no_head (Some z) (Some us) h = absurd cc
-each_some-length f (x ∷ xs) (y ∷ ys) h = ap suc (each_some-length f xs ys (each_some-parts f x xs y ys h).1)
 
 -- every place in the rows is in range, and the forced pairs name rows and columns, no two the same
 pub record IsFit (v : SystemAt) : Type 0 where
@@ -211,13 +167,38 @@ pub record IsFit (v : SystemAt) : Type 0 where
   pub columns_apart : AreApart (λ p. p.1) (length v.unknowns) (forced_pairs v)
   pub rows_apart : AreApart (λ p. p.0) (length v.rows) (forced_pairs v)
 
+powers-of_steps : (es : List Ends) → All IsPower (map radius_of es)
+powers-of_steps [] = All-nil IsPower
+powers-of_steps (e ∷ es) = All-cons IsPower (radius_of e) (map radius_of es) (record { exponent = radius_exponent e; is = refl }) (powers-of_steps es)
+
+length-range : (a n : ℕ) → length (range_with_len a n) ≡ n
+length-range a zero = refl
+length-range a (suc n) = ap suc (length-range (a + 1) n)
+
+-- what an elimination leaves is usable with the radii of its step
+pub eliminated-usable : (s : ℕ) (v : SystemAt) (slopes : List (List Ends)) (e : Elimination) (step : List Ends) → IsFit v → each_some (slopes_at s v) v.rows ≡ Some slopes →
+    eliminate s (length v.unknowns) v.params (forced_pairs v) slopes ≡ Ok e → newton_steps s v (basis_of e) ≡ Some step → IsUsable v (basis_of e) (map radius_of step)
+eliminated-usable s v slopes e step fit there eliminated stepped =
+    let n = eliminate-solved s (length v.unknowns) v.params (forced_pairs v) slopes e eliminated in
+    let z : length slopes ≡ length v.rows = each_some-length (slopes_at s v) v.rows slopes there in
+    record {
+      rows_in = fit.rows_in;
+      forced_in = columns-in (length v.unknowns) v.forced fit.columns_apart;
+      columns_in = λ j l.
+          let b = filter_range-below n.taken 0 (length v.unknowns) j 0 (subst (λ (xs : List ℕ). j < length xs) n.are l) in
+          let h : get_or (filter n.taken (range_with_len 0 (length v.unknowns))) j 0 < length v.unknowns = omega (arith, b) in
+          subst (λ (xs : List ℕ). get_or xs j 0 < length v.unknowns) (sym n.are) h;
+      columns_differ = λ i j l o h.
+          filter_range-differ n.taken (length v.unknowns) i j 0 (subst (λ (xs : List ℕ). i < length xs) n.are l) (subst (λ (xs : List ℕ). j < length xs) n.are o)
+          (subst (λ (xs : List ℕ). get_or xs i 0 ≡ get_or xs j 0) n.are h);
+      as_many_rows = eliminate-square s (length v.unknowns) v.params (forced_pairs v) slopes e fit.params_in fit.columns_apart (rw z fit.rows_apart) eliminated;
+      as_many_radii =
+          length-map step radius_of ∙ each_some-length (newton_step s (square_system v (basis_of e))) (range_with_len 0 (length e.solved)) step stepped ∙ length-range 0 (length e.solved);
+      powers = powers-of_steps step;
+    }
+
 -- where the interval test passes, the box of the certificate is sound
 pub interval_test-sound : (s : ℕ) (v : SystemAt) (c : Certificate) (columns : List ℕ) (moves : List ℤ) → 1 ≤ s → IsFit v → interval_test s v ≡ passes columns moves c → IsSoundBox s (certified_box v c)
 interval_test-sound s v c columns moves some fit h =
     let p = interval_test-passed s v c columns moves h in
-    let e = p.elimination in
-    let n = eliminate-solved s (length v.unknowns) v.params (forced_pairs v) p.slopes e p.eliminated in
-    let z : length p.slopes ≡ length v.rows = each_some-length (slopes_at s v) v.rows p.slopes p.slopes_are in
-    let w = eliminate-square s (length v.unknowns) v.params (forced_pairs v) p.slopes e fit.params_in fit.columns_apart (rw z fit.rows_apart) p.eliminated in
-    subst (λ (c : Certificate). IsSoundBox s (certified_box v c)) (sym p.is)
-    (certificate-sound s v e c.exponent p.spans some fit.rows_in (columns-in (length v.unknowns) v.forced fit.columns_apart) n w p.computed p.met p.spans_are)
+    box_test-sound s v (basis_of p.elimination) (map radius_of p.step) c some (eliminated-usable s v p.slopes p.elimination p.step fit p.slopes_are p.eliminated p.step_is) p.box_met

@@ -8,11 +8,10 @@ use Rattle.sk_num.specs.Ends.{Ends, point, mid}
 use Rattle.sk_expr.specs.Poly.{Poly, number}
 use Rattle.sk_expr.specs.SpanValue.{span_value, span_slope}
 use Rattle.sk_expr.specs.System.{SystemAt}
-use Rattle.sk_elim.specs.Elimination.{Halt, past_limit, Elimination, eliminate}
 use Rattle.sk_num.specs.Each.{each_some}
+use Rattle.sk_elim.specs.Elimination.{Halt, past_limit, Elimination, eliminate}
 use Rattle.sk_matrix.specs.Matrix.{mag_or, row_sum, row_sums, row_sums_plain, all_to, is_whole}
-use Rattle.sk_matrix.specs.Cells.{listed}
-use Rattle.sk_krawczyk.specs.Box.{SquareSystem, square_system, newton_step, radius_exponent, reach, box, slope_over, left_rest, right_rest}
+use Rattle.sk_krawczyk.specs.Box.{SquareSystem, Basis, basis_of, square_system, newton_step, radius_of, reach, box, slope_over, left_rest, right_rest}
 
 -- no number passes the limit: Y F(x), the ends of the box, J(X), Y J(X), I - Y J(X), J(X) Y, I - J(X) Y
 abbrev pub is_computed : ℕ → SquareSystem → (ℕ → ℕ) → Bool
@@ -20,29 +19,40 @@ is_computed s q radius =
     all_to q.size (λ j. is_some (newton_step s q j)) && list_all (λ e. is_in_limit e.lo && is_in_limit e.hi) (box q radius)
     && is_whole q.size q.size (slope_over s q radius) && is_whole q.size q.size (left_rest s q radius) && is_whole q.size q.size (right_rest s q radius)
 
+-- the radii: one for each solved column
+abbrev pub radius_at : List ℕ → ℕ → ℕ
+radius_at radii j = get_or radii j 0
+
 -- the five conditions: 1. each radius is at most 2^-10
-abbrev pub is_near : ℕ → SquareSystem → (ℕ → ℕ) → Bool
-is_near s q radius = all_to q.size (λ j. nat_le (radius j) (2 ^ (s - 10)))
+abbrev pub are_near : ℕ → List ℕ → Bool
+are_near s radii = list_all (λ r. nat_le r (2 ^ (s - 10))) radii
 
 -- 2. each absolute end of Newton's step is at most half the radius
 abbrev pub is_step_small : ℕ → SquareSystem → (ℕ → ℕ) → Bool
 is_step_small s q radius = all_to q.size (λ j. nat_le (2 * mag_or (newton_step s q j)) (radius j))
 
 -- 3. the rows of I - Y J(X), weighed by the radii, are at most half the radius
+abbrev pub rows_within : ℕ → ℕ → (ℕ → ℕ) → (ℕ → ℕ → Option Ends) → Bool
+rows_within s n radius a = all_to n (λ j. nat_le (total_to n (λ k. mag_or (a j k) * radius k)) (2 ^ (s - 1) * radius j))
+
 abbrev pub is_left_small : ℕ → SquareSystem → (ℕ → ℕ) → Bool
-is_left_small s q radius = all_to q.size (λ j. nat_le (total_to q.size (λ k. mag_or (left_rest s q radius j k) * radius k)) (2 ^ (s - 1) * radius j))
+is_left_small s q radius = rows_within s q.size radius (left_rest s q radius)
 
 -- 4. the row sums of I - J(X) Y are at most a half
+abbrev pub rows_small : ℕ → ℕ → ℕ → (ℕ → ℕ → Option Ends) → Bool
+rows_small s m n a = all_to m (λ i. nat_le (row_sum n (a i)) (2 ^ (s - 1)))
+
 abbrev pub is_right_small : ℕ → SquareSystem → (ℕ → ℕ) → Bool
-is_right_small s q radius = all_to q.size (λ i. nat_le (row_sum q.size (right_rest s q radius i)) (2 ^ (s - 1)))
+is_right_small s q radius = rows_small s q.size q.size (right_rest s q radius)
 
 -- 5. each length auxiliary is above its radius
 abbrev pub are_lengths_positive : SquareSystem → (ℕ → ℕ) → List ℕ → Bool
 are_lengths_positive q radius lengths = list_all (λ c. is_positive (get_or q.centre c (pos 0) -ℤ pos (reach q radius c))) lengths
 
-abbrev pub conditions : ℕ → SquareSystem → (ℕ → ℕ) → List ℕ → Bool
-conditions s q radius lengths =
-    is_near s q radius && is_step_small s q radius && is_left_small s q radius && is_right_small s q radius && are_lengths_positive q radius lengths
+abbrev pub conditions : ℕ → SquareSystem → List ℕ → List ℕ → Bool
+conditions s q radii lengths =
+    are_near s radii && is_step_small s q (radius_at radii) && is_left_small s q (radius_at radii) && is_right_small s q (radius_at radii)
+    && are_lengths_positive q (radius_at radii) lengths
 
 -- n units over 2^s, rounded up, at least 1
 abbrev pub whole_up : ℕ → ℕ → ℕ
@@ -95,22 +105,55 @@ suspects_of [] es = []
 suspects_of (r ∷ rs) [] = []
 suspects_of (r ∷ rs) (e ∷ es) = record { row = r; misses = is_off_zero e } ∷ suspects_of rs es
 
--- the radii: one for each solved column, today all of 2^exponent units
-abbrev pub radii_list : ℕ → ℕ → List ℕ
-radii_list size exponent = listed size (λ j. 2 ^ exponent)
-
-abbrev pub radii : ℕ → ℕ → ℕ → ℕ
-radii size exponent j = get_or (radii_list size exponent) j 0
-
 pub record Certificate : Type 0 where
-  pub exponent : ℕ
+  pub centre : List ℤ
+  pub radii : List ℕ
   pub bound : ℕ
   pub spread : ℕ
   pub held : List ℕ
   pub solved : List ℕ
   pub retained : List ℕ
   pub suspects : List Suspect
-  pub inverse : List (List ℤ)
+  pub inverse : List ℤ
+
+abbrev pub certificate : ℕ → SystemAt → Basis → List ℕ → List Suspect → Certificate
+certificate s v b radii suspects =
+    record {
+      centre = v.unknowns;
+      radii = radii;
+      bound = bound s (square_system v b) (radius_at radii);
+      spread = spread s (square_system v b) (radius_at radii) (radius_ratio radii);
+      held = b.held;
+      solved = b.solved;
+      retained = b.retained;
+      suspects = suspects;
+      inverse = b.inverse;
+    }
+
+abbrev pub length_columns : SystemAt → List ℕ
+length_columns v = map (λ f. f.column) (filter (λ f. f.is_length) v.forced)
+
+-- the test over a box: a number passes the limit, a condition isn't met, or all are
+pub data BoxOutcome : Type 0 where
+  over_limit : BoxOutcome
+  unmet : BoxOutcome
+  met : Certificate → BoxOutcome
+
+abbrev pub certified : ℕ → SystemAt → Basis → List ℕ → Option (List Ends) → BoxOutcome
+certified s v b radii None = over_limit
+certified s v b radii (Some spans) = met (certificate s v b radii (suspects_of b.suspects spans))
+
+-- Newton's step and the numbers over the box, then the conditions, then the suspects
+unfoldable pub box_test : ℕ → SystemAt → Basis → List ℕ → BoxOutcome
+box_test s v b radii =
+    if not (is_computed s (square_system v b) (radius_at radii)) then over_limit else
+    (if conditions s (square_system v b) radii (length_columns v) then certified s v b radii (suspect_spans s v (box (square_system v b) (radius_at radii)) b.suspects) else unmet)
+
+-- where all conditions are met there is a certificate
+abbrev pub certificate_in : BoxOutcome → Option Certificate
+certificate_in over_limit = None
+certificate_in unmet = None
+certificate_in (met c) = Some c
 
 -- the step's midpoints move the solved columns, where the test fails
 pub data Outcome : Type 0 where
@@ -118,44 +161,26 @@ pub data Outcome : Type 0 where
   fails : List ℕ → List ℤ → Outcome
   passes : List ℕ → List ℤ → Certificate → Outcome
 
-abbrev pub certificate : ℕ → SquareSystem → Elimination → ℕ → List Suspect → Certificate
-certificate s q e exponent suspects =
-    record {
-      exponent = exponent;
-      bound = bound s q (radii q.size exponent);
-      spread = spread s q (radii q.size exponent) (radius_ratio (radii_list q.size exponent));
-      held = e.held;
-      solved = e.solved;
-      retained = e.retained;
-      suspects = suspects;
-      inverse = e.inverse;
-    }
-
-abbrev pub certified : ℕ → SquareSystem → Elimination → List Ends → ℕ → Option (List Ends) → Outcome
-certified s q e step exponent None = stops past_limit
-certified s q e step exponent (Some spans) = passes e.solved (map mid step) (certificate s q e exponent (suspects_of e.suspects spans))
-
-abbrev pub length_columns : SystemAt → List ℕ
-length_columns v = map (λ f. f.column) (filter (λ f. f.is_length) v.forced)
-
--- the numbers over the box, then the conditions, then the suspects
-abbrev pub box_test : ℕ → SystemAt → SquareSystem → Elimination → List Ends → ℕ → (ℕ → ℕ) → Outcome
-box_test s v q e step exponent radius =
-    if not (is_computed s q radius) then stops past_limit else
-    (if conditions s q radius (length_columns v) then certified s q e step exponent (suspect_spans s v (box q radius) e.suspects) else fails e.solved (map mid step))
+abbrev pub outcome_of : List ℕ → List ℤ → BoxOutcome → Outcome
+outcome_of solved moves over_limit = stops past_limit
+outcome_of solved moves unmet = fails solved moves
+outcome_of solved moves (met c) = passes solved moves c
 
 -- a box that would be too large isn't looked at
-unfoldable pub radius_test : ℕ → SystemAt → SquareSystem → Elimination → List Ends → ℕ → Outcome
-radius_test s v q e step exponent =
-    if nat_le (2 ^ exponent) (2 ^ (s - 10)) then box_test s v q e step exponent (radii q.size exponent) else fails e.solved (map mid step)
+unfoldable pub radius_test : ℕ → SystemAt → Basis → List Ends → List ℕ → Outcome
+radius_test s v b step radii =
+    if are_near s radii then outcome_of b.solved (map mid step) (box_test s v b radii) else fails b.solved (map mid step)
 
-abbrev pub step_test : ℕ → SystemAt → SquareSystem → Elimination → Option (List Ends) → Outcome
-step_test s v q e None = stops past_limit
-step_test s v q e (Some step) = radius_test s v q e step (radius_exponent step)
+abbrev pub step_test : ℕ → SystemAt → Basis → Option (List Ends) → Outcome
+step_test s v b None = stops past_limit
+step_test s v b (Some step) = radius_test s v b step (map radius_of step)
+
+abbrev pub newton_steps : ℕ → SystemAt → Basis → Option (List Ends)
+newton_steps s v b = each_some (newton_step s (square_system v b)) (range_with_len 0 (length b.solved))
 
 unfoldable pub elimination_test : ℕ → SystemAt → Result Elimination Halt → Outcome
 elimination_test s v (Err h) = stops h
-elimination_test s v (Ok e) = step_test s v (square_system v e) e (each_some (newton_step s (square_system v e)) (range_with_len 0 (length e.solved)))
+elimination_test s v (Ok e) = step_test s v (basis_of e) (newton_steps s v (basis_of e))
 
 -- the slopes of a row at the point, in every column
 unfoldable pub slopes_at : ℕ → SystemAt → Poly ℤ → Option (List Ends)
@@ -168,6 +193,6 @@ abbrev pub slopes_test : ℕ → SystemAt → Option (List (List Ends)) → Outc
 slopes_test s v None = stops past_limit
 slopes_test s v (Some a) = elimination_test s v (eliminate s (length v.unknowns) v.params (forced_pairs v) a)
 
--- the whole test: the slopes at the point, the elimination, Newton's step, the radius, the box
+-- the whole test: the slopes at the point, the elimination, Newton's step, the radii, the box
 unfoldable pub interval_test : ℕ → SystemAt → Outcome
 interval_test s v = slopes_test s v (each_some (slopes_at s v) v.rows)

@@ -3,7 +3,6 @@ pub mod Box
 pub mod RadiusLaws
 pub mod IntervalTest
 pub mod Distance
-pub mod OneRow
 pub mod Examples
 pub mod BoxLaws
 pub mod SquareLaws
@@ -11,8 +10,10 @@ pub mod SoundLaws
 pub mod PassedLaws
 pub mod CertifiedBox
 pub mod CertifiedLaws
-pub mod DistanceSound
-pub mod PlacedBox
-pub mod PlacedLaws
-pub mod FreeSystem
-pub mod FreeLaws
+pub mod RatioLaws
+pub mod HeldLaws
+pub mod FitLaws
+pub mod RowReadings
+pub mod ContractingBox
+pub mod StoredBox
+pub mod Answers

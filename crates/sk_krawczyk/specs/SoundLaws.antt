@@ -17,14 +17,15 @@ use Rattle.sk_matrix.specs.Matrix.{all_to, is_whole}
 use Rattle.sk_matrix.specs.MatrixLaws.{and-first, and-second, all_to-each}
 use Rattle.sk_matrix.specs.Cells.{listed}
 use Rattle.sk_krawczyk.specs.Box.{SquareSystem, newton_step, reach, box, slope_over, left_rest, right_rest}
-use Rattle.sk_krawczyk.specs.IntervalTest.{is_computed, is_near, is_step_small, is_left_small, is_right_small, are_lengths_positive, conditions, slope_size, inverse_size, unless_none, bound, spread}
+use Rattle.sk_krawczyk.specs.IntervalTest.{is_computed, radius_at, are_near, is_step_small, is_left_small, is_right_small, are_lengths_positive, conditions, slope_size, inverse_size, unless_none, bound, spread}
 use Rattle.sk_krawczyk.specs.SoundBox.{ClaimedBox, IsPoint, IsChoice, IsSettled, IsSoundBox}
 use Rattle.sk_krawczyk.specs.BoxLaws.{at_column-none}
 use Rattle.sk_krawczyk.specs.SquareLaws.{Passes, IsWell, middle, settled-point, close-points, row-misses, above-zero}
 
 -- the test as the proof takes it
-pub test-passes : (s : ℕ) (q : SquareSystem) (r : ℕ → ℕ) (lengths : List ℕ) → is_computed s q r ≡ true → conditions s q r lengths ≡ true → Passes s q r
-test-passes s q r lengths computed met =
+pub test-passes : (s : ℕ) (q : SquareSystem) (radii lengths : List ℕ) → is_computed s q (radius_at radii) ≡ true → conditions s q radii lengths ≡ true → Passes s q (radius_at radii)
+test-passes s q radii lengths computed met =
+    let r = radius_at radii in
     let step = all_to q.size (λ j. is_some (newton_step s q j)) in
     let ends = list_all (λ (e : Ends). is_in_limit e.lo && is_in_limit e.hi) (box q r) in
     let slopes = is_whole q.size q.size (slope_over s q r) in
@@ -33,7 +34,7 @@ test-passes s q r lengths computed met =
     let four = and-first (step && ends && slopes && left) right computed in
     let three = and-first (step && ends && slopes) left four in
     let two = and-first (step && ends) slopes three in
-    let near = is_near s q r in
+    let near = are_near s radii in
     let small = is_step_small s q r in
     let lefts = is_left_small s q r in
     let rights = is_right_small s q r in

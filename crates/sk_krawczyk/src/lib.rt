@@ -1,14 +1,27 @@
 //! The interval test of a system at a point, after Krawczyk (Neumaier, Interval Methods for Systems of Equations).
 //!
 //! The definitions stand in `specs/`: the box, the test with its certificate, and what a sound box is, for any number of
-//! rows and unknowns. `try_distance` is the test for the one row of a distance.
+//! rows and unknowns.
 #![tactic(auto)]
 
-mod distance;
-mod dual;
-mod four;
+mod basis;
+mod boxes;
+mod certificate;
+mod certified;
+mod fault;
+mod given;
+mod lists;
+mod newton;
+mod over;
+mod point;
+mod radii;
+mod rests;
+mod rows;
+mod sizes;
+mod suspects;
 
-pub use distance::{Small, try_distance};
-
-#[cfg(test)]
-mod tests;
+pub use certificate::{Certificate, Given, Suspect};
+pub use certified::certify;
+pub use fault::CertFault;
+pub use given::test_box;
+pub use point::{Tried, try_point};

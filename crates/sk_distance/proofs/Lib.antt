@@ -1,0 +1,4 @@
+pub mod Steps
+pub mod OnePivot
+pub mod OneRow
+pub mod OneBox

@@ -1,0 +1,14 @@
+pub mod Box
+pub mod RadiusLaws
+pub mod IntervalTest
+pub mod OneRow
+pub mod Examples
+pub mod SoundLaws
+pub mod PassedLaws
+pub mod CertifiedBox
+pub mod CertifiedLaws
+pub mod DistanceSound
+pub mod PlacedBox
+pub mod PlacedLaws
+pub mod FreeSystem
+pub mod FreeLaws

@@ -1,0 +1,44 @@
+ghost use Rattle.std.specs.Prelude.{◌≡◌, ℕ, length, IfOk, IfSome, Some, MatchResult};
+ghost use Rattle.sk_num.specs.Scale.{IsScale};
+ghost use Rattle.sk_expr.specs.Seen.{Seen, without_names};
+ghost use Rattle.sk_krawczyk.specs.Answers.{IsCertified, StopsAs, IsSound, outcome_at, names_at};
+
+use crate::certificate::Certificate;
+use crate::fault::CertFault;
+use crate::point::{Tried, try_point};
+use sk_expr::{AtPoint, VisitFault};
+use sk_num::Grid;
+use std::alloc::Global;
+
+/// The certificate of a point that was tried.
+fn certificate_of<const S: u32>(tried: Tried<S>) -> Option<Certificate<S>>
+    ensures { result ≡ tried.entry.certificate }
+{
+    tried.certificate
+}
+
+/// The certificate of a system at a point, present exactly where the interval test of the system there passes. PastLimit
+/// comes also where a reading that the system takes there passes the limit.
+pub fn certify<P: AtPoint<S>, const S: u32>(
+    alloc: Global,
+    system: &P,
+    point: &[Grid<S>],
+) -> Result<Option<Certificate<S>>, CertFault>
+    requires scale { IsScale S }
+    requires point { length point.now ≡ P.params_of system.now }
+    ensures answer { let seen = P.seen_at system.now point.now in
+        let outcome = outcome_at S (P.params_of system.now) seen in
+        MatchResult result (IsCertified (names_at seen) outcome) (StopsAs outcome) }
+    ensures sound { IfOk result (λ c. IfSome c (λ k. (seen : Seen) × (P.seen_at system.now point.now ≡ Some seen)
+        × IsSound (names_at (P.seen_at system.now point.now)) (without_names (P.params_of system.now) seen) k)) }
+{
+    let visited = match system.at(alloc, point) {
+        Err(VisitFault::PastLimit) => return Err(CertFault::PastLimit),
+        Err(VisitFault::NoMemory) => return Err(CertFault::NoMemory),
+        Ok(visited) => visited,
+    };
+    match try_point(alloc, &visited, system.params()) {
+        Err(e) => Err(e),
+        Ok(tried) => Ok(certificate_of(tried)),
+    }
+}
