@@ -6,9 +6,9 @@ ghost use Rattle.sk_app.specs.Lent.{IsAnswer, with_items, IsSmall};
 ghost use Rattle.sk_app.specs.Certified.{members, stored as stored_in, stored_point as stored_point_of, is_elsewhere, is_distance_in, point_column as column_in, columns_of, coordinate as coordinate_at, coordinates as coordinates_at, solved_column as solved, handles as handles_of, held_but, free_group as free, tested_at, by_distances, not_yet as not_yet_for, certified_in, is_reported as is_reported_group, all_certified};
 ghost use Rattle.sk_app.specs.DistanceTest.{distance_test};
 
-use crate::SCALE;
 use crate::fault::{StageFault, Stop};
 use crate::report::Certified;
+use crate::{NoMemory, SCALE};
 use sk_distance::{Small, try_distance};
 use sk_model::Model;
 use sk_num::{Grid, Items};
@@ -16,7 +16,7 @@ use sk_types::{
     Constraint, EntityId, GroupId, Outline, ParamId, ParamValue, Request, constraint_kind,
     own_count, own_params,
 };
-use std::alloc::{AllocError, Global};
+use std::alloc::Global;
 
 // The workplane of the first reference request.
 const FIRST_PLANE: EntityId = EntityId(0x0001_0000);
@@ -43,7 +43,7 @@ fn push_stored(
     point: &mut Vec<ParamValue<SCALE>>,
     model: &Model<SCALE>,
     params: &[ParamId],
-) -> Result<(), AllocError>
+) -> Result<(), NoMemory>
     ensures { OnOk result (point.new.items ≡ point.old.items ++ map (stored_in model.now.lists) params.now) }
 {
     for param in params {
@@ -58,7 +58,7 @@ fn stored_point(
     model: &Model<SCALE>,
     outline: &Outline<SCALE>,
     group: GroupId,
-) -> Result<Vec<ParamValue<SCALE>>, AllocError>
+) -> Result<Vec<ParamValue<SCALE>>, NoMemory>
     requires { OwnFit outline.now.entities }
     ensures { IfOk result (λ p. p.items ≡ stored_point_of model.now.lists (members group outline.now)) }
 {
@@ -135,7 +135,7 @@ fn held(
     alloc: Global,
     point: &[ParamValue<SCALE>],
     solved: Option<usize>,
-) -> Result<Items<ParamId>, AllocError>
+) -> Result<Items<ParamId>, NoMemory>
     ensures { IfOk result (λ h. h ≡ held_but solved (handles_of point.now)) }
 {
     let mut held = Vec::new(alloc);
@@ -163,7 +163,7 @@ fn free_group(
     alloc: Global,
     group: GroupId,
     point: Vec<ParamValue<SCALE>>,
-) -> Result<Certified, AllocError>
+) -> Result<Certified, NoMemory>
     ensures { IfOk result (λ c. c ≡ free group point.items) }
 {
     let held = held(alloc, &point, None)?;
@@ -185,7 +185,7 @@ fn distance_group(
     point: Vec<ParamValue<SCALE>>,
     constraint: &Constraint<SCALE>,
     at: (usize, usize),
-) -> Result<Option<Certified>, AllocError>
+) -> Result<Option<Certified>, NoMemory>
     requires { (at.0 ≤ 800000) × (at.1 ≤ 800000) }
     ensures { IfOk result (λ o. o ≡ tested_at group point.items constraint.now at) }
 {
@@ -225,7 +225,7 @@ fn distances(
     alloc: Global,
     constraints: &[Constraint<SCALE>],
     group: GroupId,
-) -> Result<Vec<Constraint<SCALE>>, AllocError>
+) -> Result<Vec<Constraint<SCALE>>, NoMemory>
     ensures { IfOk result (λ v. v.items ≡ filter (is_distance_in group) constraints.now) }
 {
     let mut found = Vec::new(alloc);
@@ -259,7 +259,7 @@ fn certify_by(
     group: GroupId,
     point: Vec<ParamValue<SCALE>>,
     distances: &[Constraint<SCALE>],
-) -> Result<Option<Certified>, AllocError>
+) -> Result<Option<Certified>, NoMemory>
     requires { length outline.now.entities ≤ 200000 }
     ensures { IfOk result (λ o. o ≡ by_distances group point.items (members group outline.now) distances.now) }
 {

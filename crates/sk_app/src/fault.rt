@@ -4,9 +4,10 @@ ghost use Rattle.sk_app.specs.declared.fault.Stop.TheVariants.{NoMemory, Refused
 ghost use Rattle.sk_app.specs.declared.fault.Refusal.TheVariants.{Stage};
 ghost use Rattle.sk_app.specs.Lent.{stop_of_text, stop_of_model};
 
+use crate::NoMemory;
 use sk_model::ModelFault;
 use sk_records::ReadFault;
-use std::alloc::{AllocError, AllocFailed};
+use std::alloc::AllocFailed;
 
 /// A form of input that isn't built yet.
 #[derive(Clone, Copy, Debug, PartialEq, Eq)]
@@ -68,10 +69,10 @@ impl From<ModelFault> for Stop {
     }
 }
 
-impl From<AllocError> for Stop {
+impl From<NoMemory> for Stop {
     ghost from_gives = { λ _ s. s ≡ NoMemory };
 
-    fn from(_: AllocError) -> Self {
+    fn from(_: NoMemory) -> Self {
         Stop::NoMemory
     }
 }

@@ -4,12 +4,12 @@ ghost use Rattle.std.specs.Fmt.{decimal, signed_decimal};
 ghost use Rattle.sk_app.specs.ReportText.{handle as handle_bytes, spaced_handle};
 ghost use Rattle.sk_app.specs.FaultText.{reason_text as reason_bytes, what_text as what_bytes, read_fault_text, model_fault_text, refusal_text};
 
+use crate::NoMemory;
 use crate::fault::{Refusal, StageFault};
 use crate::report::{push_count, push_handle};
 use itoa::Buffer;
 use sk_model::{ModelFault, Reason, What};
 use sk_records::ReadFault;
-use std::alloc::AllocError;
 
 #[tactic(auto, unfolding(crate::specs::FaultText::reason_text))]
 fn reason_text(reason: Reason) -> &'static [u8]
@@ -43,7 +43,7 @@ fn what_text(what: What) -> &'static [u8]
 }
 
 // Puts words with a line's number behind them.
-fn push_line(out: &mut Vec<u8>, words: &[u8], line: u128) -> Result<(), AllocError>
+fn push_line(out: &mut Vec<u8>, words: &[u8], line: u128) -> Result<(), NoMemory>
     ensures { OnOk result (out.new.items ≡ out.old.items ++ (words.now ++ decimal line)) }
 {
     out.extend_from_slice(words)?;
@@ -51,7 +51,7 @@ fn push_line(out: &mut Vec<u8>, words: &[u8], line: u128) -> Result<(), AllocErr
 }
 
 // Puts words with a handle behind them.
-fn push_thing(out: &mut Vec<u8>, words: &[u8], handle: u32) -> Result<(), AllocError>
+fn push_thing(out: &mut Vec<u8>, words: &[u8], handle: u32) -> Result<(), NoMemory>
     ensures { OnOk result (out.new.items ≡ out.old.items ++ (words.now ++ handle_bytes handle)) }
 {
     out.extend_from_slice(words)?;
@@ -59,7 +59,7 @@ fn push_thing(out: &mut Vec<u8>, words: &[u8], handle: u32) -> Result<(), AllocE
 }
 
 // Puts words with two handles behind them.
-fn push_things(out: &mut Vec<u8>, words: &[u8], first: u32, second: u32) -> Result<(), AllocError>
+fn push_things(out: &mut Vec<u8>, words: &[u8], first: u32, second: u32) -> Result<(), NoMemory>
     ensures { OnOk result (out.new.items ≡ out.old.items ++ (words.now ++ handle_bytes first ++ spaced_handle second)) }
 {
     push_thing(out, words, first)?;
@@ -67,7 +67,7 @@ fn push_things(out: &mut Vec<u8>, words: &[u8], first: u32, second: u32) -> Resu
 }
 
 #[tactic(auto, unfolding(crate::specs::FaultText::read_fault_text))]
-fn push_read_fault(out: &mut Vec<u8>, fault: ReadFault) -> Result<(), AllocError>
+fn push_read_fault(out: &mut Vec<u8>, fault: ReadFault) -> Result<(), NoMemory>
     ensures { OnOk result (out.new.items ≡ out.old.items ++ read_fault_text fault) }
 {
     match fault {
@@ -80,7 +80,7 @@ fn push_read_fault(out: &mut Vec<u8>, fault: ReadFault) -> Result<(), AllocError
     }
 }
 
-fn push_unknown(out: &mut Vec<u8>, handle: u32, number: i32) -> Result<(), AllocError>
+fn push_unknown(out: &mut Vec<u8>, handle: u32, number: i32) -> Result<(), NoMemory>
     ensures { OnOk result (out.new.items ≡ out.old.items ++ (codes "unknown kind " ++ handle_bytes handle ++ codes " " ++ signed_decimal number)) }
 {
     push_thing(out, b"unknown kind ", handle)?;
@@ -88,7 +88,7 @@ fn push_unknown(out: &mut Vec<u8>, handle: u32, number: i32) -> Result<(), Alloc
     out.extend_from_slice(Buffer::new().format(number).as_bytes())
 }
 
-fn push_left_out(out: &mut Vec<u8>, handle: u32, reason: Reason) -> Result<(), AllocError>
+fn push_left_out(out: &mut Vec<u8>, handle: u32, reason: Reason) -> Result<(), NoMemory>
     ensures { OnOk result (out.new.items ≡ out.old.items ++ (codes "left out " ++ handle_bytes handle ++ codes " " ++ reason_bytes reason)) }
 {
     push_thing(out, b"left out ", handle)?;
@@ -97,7 +97,7 @@ fn push_left_out(out: &mut Vec<u8>, handle: u32, reason: Reason) -> Result<(), A
 }
 
 #[tactic(auto, unfolding(crate::specs::FaultText::model_fault_text))]
-fn push_model_fault(out: &mut Vec<u8>, fault: ModelFault) -> Result<(), AllocError>
+fn push_model_fault(out: &mut Vec<u8>, fault: ModelFault) -> Result<(), NoMemory>
     ensures { OnOk result (out.new.items ≡ out.old.items ++ model_fault_text fault) }
 {
     match fault {
@@ -118,7 +118,7 @@ fn push_model_fault(out: &mut Vec<u8>, fault: ModelFault) -> Result<(), AllocErr
 
 /// Puts the text of a refusal behind the text.
 #[tactic(auto, unfolding(crate::specs::FaultText::refusal_text))]
-pub(crate) fn push_refusal(out: &mut Vec<u8>, refusal: Refusal) -> Result<(), AllocError>
+pub(crate) fn push_refusal(out: &mut Vec<u8>, refusal: Refusal) -> Result<(), NoMemory>
     ensures { OnOk result (out.new.items ≡ out.old.items ++ refusal_text refusal) }
 {
     match refusal {

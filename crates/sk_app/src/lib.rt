@@ -19,3 +19,5 @@ pub use top::run;
 
 /// The scale of all numbers: a unit is 2^-36 millimetre.
 pub(crate) const SCALE: u32 = 36;
+
+pub use std::alloc::AllocError as NoMemory;

@@ -4,6 +4,7 @@ ghost use Rattle.sk_files.specs.Outcome.{Rose};
 ghost use Rattle.sk_app.specs.Lent.{IsAnswer, with_items, fault_of, Prepares, words_of};
 ghost use Rattle.sk_app.specs.Answer.{report_of, fault_text as fault_bytes, fault_status};
 
+use crate::NoMemory;
 use crate::accepted::accept;
 use crate::certify::certify_all;
 use crate::command::read_command;
@@ -12,7 +13,7 @@ use crate::fault_text::push_refusal;
 use crate::report::{Certified, group_text, last_line};
 use crate::status::Status;
 use sk_files::{Folder, OuterFault};
-use std::alloc::{AllocError, Global};
+use std::alloc::Global;
 
 /// Why a command isn't carried out.
 #[derive(Clone, Copy)]
@@ -48,7 +49,7 @@ pub(crate) struct Prepared {
 }
 
 // Puts the text of a fault behind the text.
-fn push_fault(out: &mut Vec<u8>, fault: &Fault<'_>) -> Result<(), AllocError>
+fn push_fault(out: &mut Vec<u8>, fault: &Fault<'_>) -> Result<(), NoMemory>
     ensures { OnOk result (out.new.items ≡ out.old.items ++ fault_bytes (fault_of fault.now)) }
 {
     match fault {
@@ -84,7 +85,7 @@ impl Prepared {
     ghost use Rattle.sk_app.specs.Chain.{with_err};
 
     // One fault line.
-    fn refused(alloc: Global, fault: &Fault<'_>) -> Result<Prepared, AllocError>
+    fn refused(alloc: Global, fault: &Fault<'_>) -> Result<Prepared, NoMemory>
         ensures { IfOk result (λ p. shown p ≡ answered (Err (fault_of fault.now))) }
     {
         let mut line = Vec::from_slice(alloc, b"fault ")?;
@@ -99,7 +100,7 @@ impl Prepared {
     }
 
     // The block of each group, and the last line.
-    fn certified(alloc: Global, groups: &[Certified]) -> Result<Prepared, AllocError>
+    fn certified(alloc: Global, groups: &[Certified]) -> Result<Prepared, NoMemory>
         ensures { IfOk result (λ p. shown p ≡ answered (Ok groups.now)) }
     {
         let mut pieces = Vec::new(alloc);
@@ -114,13 +115,13 @@ impl Prepared {
     }
 
     // What is put for a text.
-    fn of_text(alloc: Global, text: Vec<u8>) -> Result<Prepared, AllocError>
+    fn of_text(alloc: Global, text: Vec<u8>) -> Result<Prepared, NoMemory>
         ensures { IfOk result (λ p. shown p ≡ answered (with_err BadModel (report_of text.items))) }
     {
         match report(alloc, text) {
             Ok(groups) => Prepared::certified(alloc, &groups),
             Err(Stop::Refused(refusal)) => Prepared::refused(alloc, &Fault::Model(refusal)),
-            Err(Stop::NoMemory) => Err(AllocError),
+            Err(Stop::NoMemory) => Err(NoMemory),
         }
     }
 
@@ -129,7 +130,7 @@ impl Prepared {
         alloc: Global,
         words: &[&str],
         folder: &mut F,
-    ) -> Result<Prepared, AllocError>
+    ) -> Result<Prepared, NoMemory>
         ensures answer { IfOk result (λ p. Prepares (words_of words.now) (F.files folder.old) (Rose (F.faults folder.old) (F.faults folder.new)) (shown p)) }
         ensures files { F.files folder.new ≡ F.files folder.old }
         ensures later { F.faults folder.old ≤ F.faults folder.new }
@@ -142,7 +143,7 @@ impl Prepared {
             Ok(Some(text)) => Prepared::of_text(alloc, text),
             Ok(None) => Prepared::refused(alloc, &Fault::Absent(model)),
             Err(OuterFault::Failed) => Prepared::refused(alloc, &Fault::Unread(model)),
-            Err(OuterFault::NoMemory) => Err(AllocError),
+            Err(OuterFault::NoMemory) => Err(NoMemory),
         }
     }
 }

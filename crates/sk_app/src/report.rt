@@ -4,11 +4,11 @@ ghost use Rattle.std.specs.Fmt.{decimal, signed_decimal};
 ghost use Rattle.sk_num.specs.Spelling.{quantity_text as quantity_bytes};
 ghost use Rattle.sk_app.specs.ReportText.{handle as handle_bytes, param_handle, head_line, count_line, box_line, held_line, spaced_handle, coordinate_text, param_line, printed, group_text as block_text, last_line as last_text};
 
-use crate::SCALE;
+use crate::{NoMemory, SCALE};
 use itoa::Buffer;
 use sk_num::{Grid, Items, handle_text, quantity_text};
 use sk_types::{GroupId, ParamId, ParamValue};
-use std::alloc::{AllocError, Global};
+use std::alloc::Global;
 
 /// A certified group: the numbers of its certificate, its held parameters by handle, and its
 /// unknown parameters at the centre of the box.
@@ -31,14 +31,14 @@ pub(crate) struct Certified {
 }
 
 /// Puts a count behind the text.
-pub(crate) fn push_count(out: &mut Vec<u8>, count: u128) -> Result<(), AllocError>
+pub(crate) fn push_count(out: &mut Vec<u8>, count: u128) -> Result<(), NoMemory>
     ensures { OnOk result (out.new.items ≡ out.old.items ++ decimal count) }
 {
     out.extend_from_slice(Buffer::new().format(count).as_bytes())?;
     Ok(())
 }
 
-fn push_exponent(out: &mut Vec<u8>, exponent: i8) -> Result<(), AllocError>
+fn push_exponent(out: &mut Vec<u8>, exponent: i8) -> Result<(), NoMemory>
     ensures { OnOk result (out.new.items ≡ out.old.items ++ signed_decimal exponent) }
 {
     out.extend_from_slice(Buffer::new().format(exponent).as_bytes())?;
@@ -46,7 +46,7 @@ fn push_exponent(out: &mut Vec<u8>, exponent: i8) -> Result<(), AllocError>
 }
 
 /// Puts a handle in eight digits behind the text.
-pub(crate) fn push_handle(out: &mut Vec<u8>, handle: u32) -> Result<(), AllocError>
+pub(crate) fn push_handle(out: &mut Vec<u8>, handle: u32) -> Result<(), NoMemory>
     ensures { OnOk result (out.new.items ≡ out.old.items ++ handle_bytes handle) }
 {
     out.extend_from_slice(&handle_text(handle))?;
@@ -55,7 +55,7 @@ pub(crate) fn push_handle(out: &mut Vec<u8>, handle: u32) -> Result<(), AllocErr
 
 // Puts a quantity with 20 decimals behind the text.
 #[tactic(auto, using(sk_num::specs::Scale::scale_facts))]
-fn push_quantity(out: &mut Vec<u8>, value: Grid<SCALE>) -> Result<(), AllocError>
+fn push_quantity(out: &mut Vec<u8>, value: Grid<SCALE>) -> Result<(), NoMemory>
     ensures { OnOk result (out.new.items ≡ out.old.items ++ quantity_bytes 36 value) }
 {
     let text = quantity_text(value);
@@ -63,7 +63,7 @@ fn push_quantity(out: &mut Vec<u8>, value: Grid<SCALE>) -> Result<(), AllocError
     Ok(())
 }
 
-fn push_head(out: &mut Vec<u8>, group: u32) -> Result<(), AllocError>
+fn push_head(out: &mut Vec<u8>, group: u32) -> Result<(), NoMemory>
     ensures { OnOk result (out.new.items ≡ out.old.items ++ head_line group) }
 {
     out.extend_from_slice(b"group ")?;
@@ -77,7 +77,7 @@ fn push_counts(
     unknowns: usize,
     retained: u16,
     free: usize,
-) -> Result<(), AllocError>
+) -> Result<(), NoMemory>
     ensures { OnOk result (out.new.items ≡ out.old.items ++ count_line unknowns retained free) }
 {
     out.extend_from_slice(b"unknowns ")?;
@@ -90,7 +90,7 @@ fn push_counts(
     Ok(())
 }
 
-fn push_box(out: &mut Vec<u8>, radius_log: i8, bound: u64, spread: u128) -> Result<(), AllocError>
+fn push_box(out: &mut Vec<u8>, radius_log: i8, bound: u64, spread: u128) -> Result<(), NoMemory>
     ensures { OnOk result (out.new.items ≡ out.old.items ++ box_line radius_log bound spread) }
 {
     out.extend_from_slice(b"radius 2^")?;
@@ -103,7 +103,7 @@ fn push_box(out: &mut Vec<u8>, radius_log: i8, bound: u64, spread: u128) -> Resu
     Ok(())
 }
 
-fn push_handles(out: &mut Vec<u8>, handles: &[ParamId]) -> Result<(), AllocError>
+fn push_handles(out: &mut Vec<u8>, handles: &[ParamId]) -> Result<(), NoMemory>
     ensures { OnOk result (out.new.items ≡ out.old.items ++ flat_map spaced_handle (map param_handle handles.now)) }
 {
     for handle in handles {
@@ -113,7 +113,7 @@ fn push_handles(out: &mut Vec<u8>, handles: &[ParamId]) -> Result<(), AllocError
     Ok(())
 }
 
-fn push_held(out: &mut Vec<u8>, held: &[ParamId]) -> Result<(), AllocError>
+fn push_held(out: &mut Vec<u8>, held: &[ParamId]) -> Result<(), NoMemory>
     ensures { OnOk result (out.new.items ≡ out.old.items ++ held_line (map param_handle held.now)) }
 {
     out.extend_from_slice(b"held")?;
@@ -127,7 +127,7 @@ fn push_held(out: &mut Vec<u8>, held: &[ParamId]) -> Result<(), AllocError>
 }
 
 #[tactic(auto, unfolding(crate::specs::ReportText::param_line))]
-fn push_param(out: &mut Vec<u8>, param: &ParamValue<SCALE>) -> Result<(), AllocError>
+fn push_param(out: &mut Vec<u8>, param: &ParamValue<SCALE>) -> Result<(), NoMemory>
     ensures { OnOk result (out.new.items ≡ out.old.items ++ param_line (coordinate_text param.now)) }
 {
     out.extend_from_slice(b"param ")?;
@@ -138,7 +138,7 @@ fn push_param(out: &mut Vec<u8>, param: &ParamValue<SCALE>) -> Result<(), AllocE
     Ok(())
 }
 
-fn push_params(out: &mut Vec<u8>, params: &[ParamValue<SCALE>]) -> Result<(), AllocError>
+fn push_params(out: &mut Vec<u8>, params: &[ParamValue<SCALE>]) -> Result<(), NoMemory>
     ensures { OnOk result (out.new.items ≡ out.old.items ++ flat_map param_line (map coordinate_text params.now)) }
 {
     for param in params {
@@ -149,7 +149,7 @@ fn push_params(out: &mut Vec<u8>, params: &[ParamValue<SCALE>]) -> Result<(), Al
 
 /// The block of a certified group.
 #[tactic(auto, unfolding(crate::specs::ReportText::group_text))]
-pub(crate) fn group_text(alloc: Global, c: &Certified) -> Result<Vec<u8>, AllocError>
+pub(crate) fn group_text(alloc: Global, c: &Certified) -> Result<Vec<u8>, NoMemory>
     ensures { IfOk result (λ t. t.items ≡ block_text (printed c.now)) }
 {
     let mut out = Vec::new(alloc);
@@ -165,11 +165,7 @@ pub(crate) fn group_text(alloc: Global, c: &Certified) -> Result<Vec<u8>, AllocE
 
 /// How many of the listed groups are certified.
 #[tactic(auto, unfolding(crate::specs::ReportText::last_line))]
-pub(crate) fn last_line(
-    alloc: Global,
-    certified: usize,
-    listed: usize,
-) -> Result<Vec<u8>, AllocError>
+pub(crate) fn last_line(alloc: Global, certified: usize, listed: usize) -> Result<Vec<u8>, NoMemory>
     ensures { IfOk result (λ t. t.items ≡ last_text certified listed) }
 {
     let mut out = Vec::from_slice(alloc, b"certified ")?;

@@ -11,12 +11,13 @@ ghost use Rattle.sk_app.specs.Ends.{RunsTo, IsComplete, code_of, work_in};
 ghost use Rattle.sk_app.specs.Lent.{words_of};
 ghost use Rattle.sk_app.specs.Printed.{Headline};
 
+use crate::NoMemory;
 use crate::pieces::{put_all, put_memory};
 use crate::prepared::Prepared;
 use crate::status::End;
 use sk_count::Steps;
 use sk_files::{Folder, OuterFault, Sink};
-use std::alloc::{AllocError, Global};
+use std::alloc::Global;
 use std::sync::ledger::Ledger;
 
 // All inputs are read and all pieces made before the first put.
@@ -30,7 +31,7 @@ fn ended<F: Folder, W: Sink>(alloc: Global, words: &[&str], folder: &mut F, out:
             Err(OuterFault::Failed) => End::SinkFailed,
             Err(OuterFault::NoMemory) => put_memory(out),
         },
-        Err(AllocError) => put_memory(out),
+        Err(NoMemory) => put_memory(out),
     }
 }
 

@@ -10,6 +10,7 @@ ghost use Rattle.sk_chain.specs.Known.{AreConstraints, AreGroups, place_handle};
 ghost use Rattle.sk_chain.specs.Order.{group_order};
 ghost use Rattle.sk_chain.specs.Outlines.{all_made, entities_fault, groups_fault, outlined};
 
+use crate::NoMemory;
 use crate::entities::{all_made, made_fault};
 use crate::lookups::places_of;
 use crate::named::{
@@ -21,13 +22,10 @@ use indexmap::IndexSet;
 use sk_model::{Model, ModelFault};
 use sk_num::Items;
 use sk_types::{Entity, GroupId, Outline};
-use std::alloc::{AllocError, Global};
+use std::alloc::Global;
 
 /// The groups in their order: group 1 first, then the others by rising order, ties by rising handle.
-pub fn order_groups<const S: u32>(
-    alloc: Global,
-    model: &Model<S>,
-) -> Result<Vec<GroupId>, AllocError>
+pub fn order_groups<const S: u32>(alloc: Global, model: &Model<S>) -> Result<Vec<GroupId>, NoMemory>
     ensures { IfOk result (λ v. v.items ≡ group_order model.now.lists.groups) }
 {
     order_of(alloc, model.groups())
@@ -57,7 +55,7 @@ fn entities_fault<const S: u32>(
     model: &Model<S>,
     places: &IndexSet<GroupId>,
     entities: &[Entity<S>],
-) -> Result<Option<ModelFault>, AllocError>
+) -> Result<Option<ModelFault>, NoMemory>
     requires groups { AreGroups model.now.lists.groups }
     requires places { places.now.keys ≡ group_order model.now.lists.groups }
     requires distinct { IsDistinct nat_eq (map place_handle places.now.keys) }

@@ -7,11 +7,12 @@ ghost use Rattle.sk_chain.specs.Known.{AreGroups, AreRequests};
 ghost use Rattle.sk_chain.specs.Outlines.{all_made, made_fault, first_fault, request_group_fault};
 ghost use Rattle.sk_chain.specs.Order.{group_order, groups_in_order};
 
+use crate::NoMemory;
 use crate::order::requests_in_order;
 use sk_entity::{entity_count, request_entities};
 use sk_model::{Model, ModelFault, What};
 use sk_types::{Entity, Request};
-use std::alloc::{AllocError, Global};
+use std::alloc::Global;
 
 // The most entities of all groups.
 const ENTITIES: usize = 200_000;
@@ -38,7 +39,7 @@ pub(crate) fn made_fault<const S: u32>(model: &Model<S>) -> Option<ModelFault>
 pub(crate) fn all_made<const S: u32>(
     alloc: Global,
     requests: &[Request],
-) -> Result<Vec<Entity<S>>, AllocError>
+) -> Result<Vec<Entity<S>>, NoMemory>
     requires { AreRequests requests.now }
     ensures value { IfOk result (λ v. v.items ≡ all_made S requests.now) }
     ensures rising { IfOk result (λ v. Rise v.items) }

@@ -11,3 +11,4 @@ mod order;
 mod sizes;
 
 pub use chain::{order_groups, outline};
+pub use std::alloc::AllocError as NoMemory;

@@ -5,12 +5,13 @@ ghost use Rattle.std.specs.List.{IsDistinct};
 ghost use Rattle.sk_chain.specs.Lookups.{place_in};
 ghost use Rattle.sk_chain.specs.Known.{place_handle};
 
+use crate::NoMemory;
 use indexmap::IndexSet;
 use sk_types::GroupId;
-use std::alloc::{AllocError, Global};
+use std::alloc::Global;
 
 /// The groups with their places.
-pub(crate) fn places_of(alloc: Global, order: &[GroupId]) -> Result<IndexSet<GroupId>, AllocError>
+pub(crate) fn places_of(alloc: Global, order: &[GroupId]) -> Result<IndexSet<GroupId>, NoMemory>
     requires { IsDistinct nat_eq (map place_handle order.now) }
     ensures places { IfOk result (λ places. places.keys ≡ order.now) }
     ensures distinct { IfOk result (λ places. IsDistinct nat_eq (map place_handle places.keys)) }

@@ -9,8 +9,9 @@ ghost use Rattle.sk_chain.specs.Order.{group_order, requests_in_order};
 ghost use Rattle.sk_model.specs.Checked.{IsCheckedRequest};
 ghost use Rattle.sk_chain.specs.Known.{AreGroups, AreRequests, place_handle};
 
+use crate::NoMemory;
 use sk_types::{Group, GroupId, Request};
-use std::alloc::{AllocError, Global};
+use std::alloc::Global;
 use std::collections::{BTreeMap, BTreeSet};
 
 // What groups are ordered by: group 1 first, then the order, then the handle.
@@ -24,7 +25,7 @@ fn rank<const S: u32>(group: &Group<S>) -> (bool, i32, u32)
 pub(crate) fn order_of<const S: u32>(
     alloc: Global,
     groups: &[Group<S>],
-) -> Result<Vec<GroupId>, AllocError>
+) -> Result<Vec<GroupId>, NoMemory>
     requires { AreGroups groups.now }
     ensures order { IfOk result (λ v. v.items ≡ group_order groups.now) }
     ensures distinct { IfOk result (λ v. IsDistinct nat_eq (map place_handle v.items)) }
@@ -45,7 +46,7 @@ pub(crate) fn order_of<const S: u32>(
 pub(crate) fn requests_in_order(
     alloc: Global,
     requests: &[Request],
-) -> Result<Vec<Request>, AllocError>
+) -> Result<Vec<Request>, NoMemory>
     requires { AreRequests requests.now }
     ensures items { IfOk result (λ v. v.items ≡ requests_in_order requests.now) }
     ensures rising { IfOk result (λ v. IsStrictlySortedBy nat_cmp (map request_handle v.items)) }

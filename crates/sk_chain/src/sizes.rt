@@ -10,6 +10,7 @@ ghost use Rattle.sk_chain.specs.Known.{AreConstraints, AreGroups, place_handle};
 ghost use Rattle.sk_chain.specs.Order.{group_order, groups_in_order};
 ghost use Rattle.sk_chain.specs.Outlines.{first_fault, size_fault};
 
+use crate::NoMemory;
 use crate::lookups::place_in;
 use indexmap::IndexSet;
 use sk_model::{ModelFault, What};
@@ -17,7 +18,7 @@ use sk_types::{
     Constraint, Entity, FixedPoints, Group, GroupId, Standing, entity_rows, group_count,
     group_rows, own_count, sizes_in,
 };
-use std::alloc::{AllocError, Global};
+use std::alloc::Global;
 
 // The most unknowns, and the most rows, of a group.
 const MOST: u16 = 400;
@@ -86,7 +87,7 @@ struct Counts {
 
 impl Counts {
     // Nothing yet for each group.
-    fn zeros(alloc: Global, places: &IndexSet<GroupId>) -> Result<Counts, AllocError>
+    fn zeros(alloc: Global, places: &IndexSet<GroupId>) -> Result<Counts, NoMemory>
         ensures { IfOk result (λ c. c.by_place.items ≡ zeros places.now.keys) }
     {
         let nothing = Count {
@@ -166,7 +167,7 @@ fn counted<const S: u32>(
     groups: &[Group<S>],
     entities: &[Entity<S>],
     constraints: &[Constraint<S>],
-) -> Result<Counts, AllocError>
+) -> Result<Counts, NoMemory>
     requires distinct { IsDistinct nat_eq (map place_handle places.now.keys) }
     requires rising { Rise entities.now }
     requires accepted { AreConstraints constraints.now }
@@ -187,7 +188,7 @@ pub(crate) fn size_fault<const S: u32>(
     groups: &[Group<S>],
     entities: &[Entity<S>],
     constraints: &[Constraint<S>],
-) -> Result<Option<ModelFault>, AllocError>
+) -> Result<Option<ModelFault>, NoMemory>
     requires groups { AreGroups groups.now }
     requires places { places.now.keys ≡ group_order groups.now }
     requires distinct { IsDistinct nat_eq (map place_handle places.now.keys) }

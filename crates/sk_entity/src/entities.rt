@@ -4,10 +4,11 @@ ghost use Rattle.std.specs.Prelude.{◌≡◌, ◌≤◌, ◌<◌, ℕ, IfOk, le
 ghost use Rattle.sk_types.specs.Lists.{each_below};
 ghost use Rattle.sk_entity.specs.Requests.{bare, point_kind, point_of, normal_of, distance_of, curve_of, request_entities, entity_item, param_item, part_count};
 
+use crate::NoMemory;
 use crate::shape::{Shape, shape_of};
 use sk_num::Items;
 use sk_types::{Entity, EntityId, Numbering, ParamId, Request, entity_kind, request_kind};
-use std::alloc::{AllocError, Global};
+use std::alloc::Global;
 
 // No entity.
 const NONE: EntityId = EntityId(0);
@@ -88,7 +89,7 @@ fn normal<const S: u32>(alloc: Global, r: &Request) -> Entity<S>
 }
 
 // Entity 0, which names the others.
-fn curve<const S: u32>(alloc: Global, r: &Request, shape: &Shape) -> Result<Entity<S>, AllocError>
+fn curve<const S: u32>(alloc: Global, r: &Request, shape: &Shape) -> Result<Entity<S>, NoMemory>
     requires known { r.now.id.0 ≤ 32767 }
     requires few { shape.now.points ≤ 259 }
     ensures { IfOk result (λ e. e ≡ curve_of S r.now shape.now) }
@@ -125,7 +126,7 @@ fn curve<const S: u32>(alloc: Global, r: &Request, shape: &Shape) -> Result<Enti
 pub fn request_entities<const S: u32>(
     alloc: Global,
     r: &Request,
-) -> Result<Vec<Entity<S>>, AllocError>
+) -> Result<Vec<Entity<S>>, NoMemory>
     requires { r.now.id.0 ≤ 32767 }
     ensures { IfOk result (λ v. v.items ≡ request_entities S r.now) }
 {

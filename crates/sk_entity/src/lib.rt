@@ -9,3 +9,4 @@ mod shape;
 
 pub use entities::{entity_count, request_entities};
 pub use params::{request_params, start_value};
+pub use std::alloc::AllocError as NoMemory;

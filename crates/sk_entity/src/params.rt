@@ -7,13 +7,14 @@ ghost use Rattle.sk_types.specs.Params.{own_params};
 ghost use Rattle.sk_num.specs.Scale.{IsScale};
 ghost use Rattle.sk_entity.specs.Requests.{point_of, normal_of, distance_of, request_params, has_normal_in_space as normal_in_space, start_value as start_of};
 
+use crate::NoMemory;
 use crate::shape::{Shape, shape_of};
 use sk_num::Grid;
 use sk_types::{ParamId, Request, request_kind};
-use std::alloc::{AllocError, Global};
+use std::alloc::Global;
 
 // The parameters of a point, two in a workplane and three in space.
-fn add_point(params: &mut Vec<ParamId>, r: &Request, i: u16) -> Result<(), AllocError>
+fn add_point(params: &mut Vec<ParamId>, r: &Request, i: u16) -> Result<(), NoMemory>
     requires known { r.now.id.0 ≤ 32767 }
     requires few { i < 259 }
     ensures { OnOk result ((s : ℕ) → params.new.items ≡ params.old.items ++ own_params (point_of s r.now i)) }
@@ -28,7 +29,7 @@ fn add_point(params: &mut Vec<ParamId>, r: &Request, i: u16) -> Result<(), Alloc
 }
 
 // Those of its normal, where it has one.
-fn add_normal(params: &mut Vec<ParamId>, r: &Request, shape: &Shape) -> Result<(), AllocError>
+fn add_normal(params: &mut Vec<ParamId>, r: &Request, shape: &Shape) -> Result<(), NoMemory>
     requires { r.now.id.0 ≤ 32767 }
     ensures { OnOk result ((s : ℕ) → params.new.items ≡ params.old.items ++ flat_map own_params (only_if shape.now.has_normal (normal_of s r.now ∷ []))) }
 {
@@ -42,7 +43,7 @@ fn add_normal(params: &mut Vec<ParamId>, r: &Request, shape: &Shape) -> Result<(
 }
 
 // That of its distance, where it has one.
-fn add_distance(params: &mut Vec<ParamId>, r: &Request, shape: &Shape) -> Result<(), AllocError>
+fn add_distance(params: &mut Vec<ParamId>, r: &Request, shape: &Shape) -> Result<(), NoMemory>
     requires { r.now.id.0 ≤ 32767 }
     ensures { OnOk result ((s : ℕ) → params.new.items ≡ params.old.items ++ flat_map own_params (only_if shape.now.has_distance (distance_of s r.now ∷ []))) }
 {
@@ -54,7 +55,7 @@ fn add_distance(params: &mut Vec<ParamId>, r: &Request, shape: &Shape) -> Result
 
 /// The parameters of a request, in rising handle order: those that its entities have by their own numbers.
 #[tactic(auto, unfolding(crate::specs::Requests::request_entities))]
-pub fn request_params(alloc: Global, r: &Request) -> Result<Vec<ParamId>, AllocError>
+pub fn request_params(alloc: Global, r: &Request) -> Result<Vec<ParamId>, NoMemory>
     requires { r.now.id.0 ≤ 32767 }
     ensures { (s : ℕ) → IfOk result (λ v. v.items ≡ request_params s r.now) }
 {

@@ -9,13 +9,14 @@ ghost use Rattle.sk_expr.specs.declared.fault.VisitFault.TheVariants.{PastLimit}
 ghost use Rattle.sk_expr.specs.declared.row.RowKind.TheVariants.{OfConstraint};
 ghost use Rattle.sk_eq_points.specs.PointRows.{point_formula};
 
+use crate::NoMemory;
 use crate::points::{coincident, in_plane, level, middle, over_plane, points_apart};
 use crate::symmetry::{
     mirrored_over_u, mirrored_over_v, symmetric_over_line, symmetric_over_plane,
 };
 use sk_expr::{Auxiliaries, ConstraintParts, Formula, RowKind, Rows, VisitFault};
 use sk_types::{Constraint, constraint_kind as kind};
-use std::alloc::{AllocError, Global};
+use std::alloc::Global;
 
 /// The formula of a constraint of points by its parts; that with no rows for any other constraint.
 #[tactic(auto, unfolding(crate::specs::PointRows::point_rows))]
@@ -23,7 +24,7 @@ pub fn formula<const S: u32>(
     alloc: Global,
     c: &Constraint<S>,
     parts: &ConstraintParts<S>,
-) -> Result<Formula<S>, AllocError>
+) -> Result<Formula<S>, NoMemory>
     requires { IsScale S }
     ensures formula { IfOk result (λ f. formula_of f ≡ point_formula S c.now (parts_of parts.now)) }
     ensures small { IfOk result (λ f. IsSmall f) }

@@ -9,3 +9,4 @@ mod points;
 mod symmetry;
 
 pub use kinds::{formula, rows};
+pub use std::alloc::AllocError as NoMemory;

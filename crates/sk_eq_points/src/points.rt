@@ -10,16 +10,17 @@ ghost use Rattle.sk_expr.specs.Formula.{rows_only};
 ghost use Rattle.sk_expr.specs.Vectors.{about, component};
 ghost use Rattle.sk_eq_points.specs.PointRows.{points_difference, points_apart, height_over, over_plane, in_plane, middle, level_end, level};
 
+use crate::NoMemory;
 use sk_expr::{ConstraintParts, Expr, Formula, Tree, Vector, squared_number, sub};
 use sk_num::Grid;
-use std::alloc::{AllocError, Global};
+use std::alloc::Global;
 
 /// `p - q`.
 pub(crate) fn points_difference<const S: u32>(
     alloc: Global,
     flat: bool,
     parts: &ConstraintParts<S>,
-) -> Result<Vector<S>, AllocError>
+) -> Result<Vector<S>, NoMemory>
     ensures { IfOk result (λ v. vector_of v ≡ points_difference flat (parts_of parts.now)) }
 {
     let p = parts.point(alloc, flat, 0)?;
@@ -33,7 +34,7 @@ pub(crate) fn about<const S: u32>(
     p: &Vector<S>,
     q: &Vector<S>,
     m: &Vector<S>,
-) -> Result<Vector<S>, AllocError>
+) -> Result<Vector<S>, NoMemory>
     requires { IsScale S }
     ensures { IfOk result (λ v. vector_of v ≡ about S (vector_of p.now) (vector_of q.now) (vector_of m.now)) }
 {
@@ -47,7 +48,7 @@ pub(crate) fn coincident<const S: u32>(
     alloc: Global,
     flat: bool,
     parts: &ConstraintParts<S>,
-) -> Result<Formula<S>, AllocError>
+) -> Result<Formula<S>, NoMemory>
     ensures formula { IfOk result (λ f. formula_of f ≡ rows_only (points_difference flat (parts_of parts.now))) }
     ensures small { IfOk result (λ f. IsSmall f) }
 {
@@ -61,7 +62,7 @@ pub(crate) fn points_apart<const S: u32>(
     flat: bool,
     value: Grid<S>,
     parts: &ConstraintParts<S>,
-) -> Result<Formula<S>, AllocError>
+) -> Result<Formula<S>, NoMemory>
     ensures formula { IfOk result (λ f. formula_of f ≡ rows_only (points_apart flat value.entry (parts_of parts.now))) }
     ensures small { IfOk result (λ f. IsSmall f) }
 {
@@ -73,10 +74,7 @@ pub(crate) fn points_apart<const S: u32>(
 }
 
 /// How high the first point lies over the first workplane, times the length of its normal.
-fn height_over<const S: u32>(
-    alloc: Global,
-    parts: &ConstraintParts<S>,
-) -> Result<Tree<S>, AllocError>
+fn height_over<const S: u32>(alloc: Global, parts: &ConstraintParts<S>) -> Result<Tree<S>, NoMemory>
     ensures { IfOk result (λ e. poly_of e ≡ height_over (parts_of parts.now)) }
 {
     let p = parts.point(alloc, false, 0)?;
@@ -91,7 +89,7 @@ pub(crate) fn over_plane<const S: u32>(
     alloc: Global,
     value: Grid<S>,
     parts: &ConstraintParts<S>,
-) -> Result<Formula<S>, AllocError>
+) -> Result<Formula<S>, NoMemory>
     ensures formula { IfOk result (λ f. formula_of f ≡ rows_only (over_plane value.entry (parts_of parts.now))) }
     ensures small { IfOk result (λ f. IsSmall f) }
 {
@@ -104,7 +102,7 @@ pub(crate) fn over_plane<const S: u32>(
 pub(crate) fn in_plane<const S: u32>(
     alloc: Global,
     parts: &ConstraintParts<S>,
-) -> Result<Formula<S>, AllocError>
+) -> Result<Formula<S>, NoMemory>
     ensures formula { IfOk result (λ f. formula_of f ≡ rows_only (in_plane (parts_of parts.now))) }
     ensures small { IfOk result (λ f. IsSmall f) }
 {
@@ -118,7 +116,7 @@ pub(crate) fn middle<const S: u32>(
     has_point: bool,
     flat: bool,
     parts: &ConstraintParts<S>,
-) -> Result<Formula<S>, AllocError>
+) -> Result<Formula<S>, NoMemory>
     requires { IsScale S }
     ensures formula { IfOk result (λ f. formula_of f ≡ rows_only (middle S has_point flat (parts_of parts.now))) }
     ensures small { IfOk result (λ f. IsSmall f) }
@@ -154,7 +152,7 @@ fn flat_end<const S: u32>(
     has_line: bool,
     i: usize,
     parts: &ConstraintParts<S>,
-) -> Result<Vector<S>, AllocError>
+) -> Result<Vector<S>, NoMemory>
     ensures { IfOk result (λ v. vector_of v ≡ level_end has_line (parts_of parts.now) i) }
 {
     if has_line {
@@ -172,7 +170,7 @@ pub(crate) fn level<const S: u32>(
     has_line: bool,
     second: bool,
     parts: &ConstraintParts<S>,
-) -> Result<Formula<S>, AllocError>
+) -> Result<Formula<S>, NoMemory>
     ensures formula { IfOk result (λ f. formula_of f ≡ rows_only (level has_line (if second then 1 else 0) (parts_of parts.now))) }
     ensures small { IfOk result (λ f. IsSmall f) }
 {

@@ -9,15 +9,16 @@ ghost use Rattle.sk_expr.specs.Formula.{rows_only};
 ghost use Rattle.sk_expr.specs.Vectors.{cross};
 ghost use Rattle.sk_eq_points.specs.PointRows.{symmetric_over_plane, mirrored, symmetric_over_line};
 
+use crate::NoMemory;
 use crate::points::{about, points_difference};
 use sk_expr::{ConstraintParts, Formula, Vector, add, sub};
-use std::alloc::{AllocError, Global};
+use std::alloc::Global;
 
 pub(crate) fn symmetric_over_plane<const S: u32>(
     alloc: Global,
     flat: bool,
     parts: &ConstraintParts<S>,
-) -> Result<Formula<S>, AllocError>
+) -> Result<Formula<S>, NoMemory>
     requires { IsScale S }
     ensures formula { IfOk result (λ f. formula_of f ≡ rows_only (symmetric_over_plane S flat (parts_of parts.now))) }
     ensures small { IfOk result (λ f. IsSmall f) }
@@ -46,7 +47,7 @@ pub(crate) fn symmetric_over_plane<const S: u32>(
 pub(crate) fn mirrored_over_v<const S: u32>(
     alloc: Global,
     parts: &ConstraintParts<S>,
-) -> Result<Formula<S>, AllocError>
+) -> Result<Formula<S>, NoMemory>
     ensures formula { IfOk result (λ f. formula_of f ≡ rows_only (mirrored 1 0 (parts_of parts.now))) }
     ensures small { IfOk result (λ f. IsSmall f) }
 {
@@ -61,7 +62,7 @@ pub(crate) fn mirrored_over_v<const S: u32>(
 pub(crate) fn mirrored_over_u<const S: u32>(
     alloc: Global,
     parts: &ConstraintParts<S>,
-) -> Result<Formula<S>, AllocError>
+) -> Result<Formula<S>, NoMemory>
     ensures formula { IfOk result (λ f. formula_of f ≡ rows_only (mirrored 0 1 (parts_of parts.now))) }
     ensures small { IfOk result (λ f. IsSmall f) }
 {
@@ -75,7 +76,7 @@ pub(crate) fn mirrored_over_u<const S: u32>(
 pub(crate) fn symmetric_over_line<const S: u32>(
     alloc: Global,
     parts: &ConstraintParts<S>,
-) -> Result<Formula<S>, AllocError>
+) -> Result<Formula<S>, NoMemory>
     requires { IsScale S }
     ensures formula { IfOk result (λ f. formula_of f ≡ rows_only (symmetric_over_line S (parts_of parts.now))) }
     ensures small { IfOk result (λ f. IsSmall f) }

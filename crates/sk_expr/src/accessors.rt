@@ -5,12 +5,13 @@ ghost use Rattle.sk_expr.specs.VectorViews.{vector_of};
 ghost use Rattle.sk_expr.specs.PartViews.{v3_of, pair_of, line_of, parts_of};
 ghost use Rattle.sk_expr.specs.Parts.{no_vector, vector_at, point_at, line_at, end_at, line_vector, frame_at, axes_at};
 
+use crate::NoMemory;
 use crate::building::copy;
 use crate::expr::{Expr, Tree};
 use crate::parts::{ConstraintParts, LineParts, V3};
 use crate::vectors::Vector;
 use sk_num::Grid;
-use std::alloc::{AllocError, Global};
+use std::alloc::Global;
 
 impl<const S: u32> Vector<S> {
     /// The zero vector with two components, which stands for what isn't there.
@@ -25,7 +26,7 @@ impl<const S: u32> Vector<S> {
     }
 
     /// The vector in a workplane with these components.
-    pub fn flat(alloc: Global, components: &[Tree<S>; 2]) -> Result<Vector<S>, AllocError>
+    pub fn flat(alloc: Global, components: &[Tree<S>; 2]) -> Result<Vector<S>, NoMemory>
         ensures { IfOk result (λ v. vector_of v ≡ pair_of components.now) }
     {
         let [u, v] = components;
@@ -37,7 +38,7 @@ impl<const S: u32> Vector<S> {
     }
 
     /// The vector in this place of a list, in space.
-    pub fn among(alloc: Global, vectors: &[V3<S>], place: usize) -> Result<Vector<S>, AllocError>
+    pub fn among(alloc: Global, vectors: &[V3<S>], place: usize) -> Result<Vector<S>, NoMemory>
         ensures { IfOk result (λ v. vector_of v ≡ vector_at (map v3_of vectors.now) place) }
     {
         match vectors.get(place) {
@@ -51,7 +52,7 @@ impl<const S: u32> Vector<S> {
         alloc: Global,
         vectors: &[[Tree<S>; 2]],
         place: usize,
-    ) -> Result<Vector<S>, AllocError>
+    ) -> Result<Vector<S>, NoMemory>
         ensures { IfOk result (λ v. vector_of v ≡ vector_at (map pair_of vectors.now) place) }
     {
         match vectors.get(place) {
@@ -63,7 +64,7 @@ impl<const S: u32> Vector<S> {
 
 impl<const S: u32> V3<S> {
     /// An equal vector in memory of its own.
-    pub fn vector(&self, alloc: Global) -> Result<Vector<S>, AllocError>
+    pub fn vector(&self, alloc: Global) -> Result<Vector<S>, NoMemory>
         ensures { IfOk result (λ v. vector_of v ≡ v3_of self.now) }
     {
         Ok(Vector {
@@ -76,7 +77,7 @@ impl<const S: u32> V3<S> {
 
 impl<const S: u32> LineParts<S> {
     /// Point 0 or 1, in the workplane or in space.
-    fn end(&self, alloc: Global, flat: bool, i: usize) -> Result<Vector<S>, AllocError>
+    fn end(&self, alloc: Global, flat: bool, i: usize) -> Result<Vector<S>, NoMemory>
         ensures { IfOk result (λ v. vector_of v ≡ end_at flat (line_of self.now) i) }
     {
         match &self.flat {
@@ -90,7 +91,7 @@ impl<const S: u32> LineParts<S> {
 /// The parts in their places, from 0; the zero vector for what isn't there.
 impl<const S: u32> ConstraintParts<S> {
     /// A point, in the workplane or in space.
-    pub fn point(&self, alloc: Global, flat: bool, i: usize) -> Result<Vector<S>, AllocError>
+    pub fn point(&self, alloc: Global, flat: bool, i: usize) -> Result<Vector<S>, NoMemory>
         ensures { IfOk result (λ v. vector_of v ≡ point_at flat (parts_of self.now) i) }
     {
         if flat {
@@ -107,7 +108,7 @@ impl<const S: u32> ConstraintParts<S> {
         flat: bool,
         line: usize,
         i: usize,
-    ) -> Result<Vector<S>, AllocError>
+    ) -> Result<Vector<S>, NoMemory>
         ensures { IfOk result (λ v. vector_of v ≡ end_at flat (line_at (parts_of self.now) line) i) }
     {
         match self.lines.as_slice().get(line) {
@@ -117,12 +118,7 @@ impl<const S: u32> ConstraintParts<S> {
     }
 
     /// The vector of a line, point 0 less point 1, in the workplane or in space.
-    pub fn line_vector(
-        &self,
-        alloc: Global,
-        flat: bool,
-        line: usize,
-    ) -> Result<Vector<S>, AllocError>
+    pub fn line_vector(&self, alloc: Global, flat: bool, line: usize) -> Result<Vector<S>, NoMemory>
         ensures { IfOk result (λ v. vector_of v ≡ line_vector flat (line_at (parts_of self.now) line)) }
     {
         let start = self.line_end(alloc, flat, line, 0)?;
@@ -134,7 +130,7 @@ impl<const S: u32> ConstraintParts<S> {
 /// Frames and axes in their places, from 0; the zero vector for what isn't there.
 impl<const S: u32> ConstraintParts<S> {
     /// The origin of a workplane.
-    pub fn frame_origin(&self, alloc: Global, i: usize) -> Result<Vector<S>, AllocError>
+    pub fn frame_origin(&self, alloc: Global, i: usize) -> Result<Vector<S>, NoMemory>
         ensures { IfOk result (λ v. vector_of v ≡ (frame_at (parts_of self.now) i).origin) }
     {
         match self.frames.as_slice().get(i) {
@@ -144,7 +140,7 @@ impl<const S: u32> ConstraintParts<S> {
     }
 
     /// The axis U of a workplane.
-    pub fn frame_u(&self, alloc: Global, i: usize) -> Result<Vector<S>, AllocError>
+    pub fn frame_u(&self, alloc: Global, i: usize) -> Result<Vector<S>, NoMemory>
         ensures { IfOk result (λ v. vector_of v ≡ (frame_at (parts_of self.now) i).u) }
     {
         match self.frames.as_slice().get(i) {
@@ -154,7 +150,7 @@ impl<const S: u32> ConstraintParts<S> {
     }
 
     /// The axis V of a workplane.
-    pub fn frame_v(&self, alloc: Global, i: usize) -> Result<Vector<S>, AllocError>
+    pub fn frame_v(&self, alloc: Global, i: usize) -> Result<Vector<S>, NoMemory>
         ensures { IfOk result (λ v. vector_of v ≡ (frame_at (parts_of self.now) i).v) }
     {
         match self.frames.as_slice().get(i) {
@@ -164,7 +160,7 @@ impl<const S: u32> ConstraintParts<S> {
     }
 
     /// The normal of a workplane.
-    pub fn frame_n(&self, alloc: Global, i: usize) -> Result<Vector<S>, AllocError>
+    pub fn frame_n(&self, alloc: Global, i: usize) -> Result<Vector<S>, NoMemory>
         ensures { IfOk result (λ v. vector_of v ≡ (frame_at (parts_of self.now) i).n) }
     {
         match self.frames.as_slice().get(i) {
@@ -174,7 +170,7 @@ impl<const S: u32> ConstraintParts<S> {
     }
 
     /// The axis U of a normal.
-    pub fn normal_u(&self, alloc: Global, i: usize) -> Result<Vector<S>, AllocError>
+    pub fn normal_u(&self, alloc: Global, i: usize) -> Result<Vector<S>, NoMemory>
         ensures { IfOk result (λ v. vector_of v ≡ (axes_at (parts_of self.now) i).u) }
     {
         match self.axes.as_slice().get(i) {
@@ -184,7 +180,7 @@ impl<const S: u32> ConstraintParts<S> {
     }
 
     /// The axis V of a normal.
-    pub fn normal_v(&self, alloc: Global, i: usize) -> Result<Vector<S>, AllocError>
+    pub fn normal_v(&self, alloc: Global, i: usize) -> Result<Vector<S>, NoMemory>
         ensures { IfOk result (λ v. vector_of v ≡ (axes_at (parts_of self.now) i).v) }
     {
         match self.axes.as_slice().get(i) {
@@ -194,7 +190,7 @@ impl<const S: u32> ConstraintParts<S> {
     }
 
     /// The axis N of a normal.
-    pub fn normal_n(&self, alloc: Global, i: usize) -> Result<Vector<S>, AllocError>
+    pub fn normal_n(&self, alloc: Global, i: usize) -> Result<Vector<S>, NoMemory>
         ensures { IfOk result (λ v. vector_of v ≡ (axes_at (parts_of self.now) i).n) }
     {
         match self.axes.as_slice().get(i) {

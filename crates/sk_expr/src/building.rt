@@ -2,16 +2,17 @@ ghost use Rattle.std.specs.Prelude.{◌≡◌, IfOk};
 ghost use Rattle.sk_expr.specs.Poly.{number, plus, minus, times};
 ghost use Rattle.sk_expr.specs.Trees.{poly_of};
 
+use crate::NoMemory;
 use crate::expr::Expr;
 use sk_num::Grid;
-use std::alloc::{AllocError, Global};
+use std::alloc::Global;
 
 /// The sum of two trees.
 pub fn add<const S: u32>(
     alloc: Global,
     a: Expr<Grid<S>>,
     b: Expr<Grid<S>>,
-) -> Result<Expr<Grid<S>>, AllocError>
+) -> Result<Expr<Grid<S>>, NoMemory>
     ensures { IfOk result (λ e. poly_of e ≡ plus (poly_of a.entry) (poly_of b.entry)) }
 {
     let a = Box::new(alloc, a)?;
@@ -24,7 +25,7 @@ pub fn sub<const S: u32>(
     alloc: Global,
     a: Expr<Grid<S>>,
     b: Expr<Grid<S>>,
-) -> Result<Expr<Grid<S>>, AllocError>
+) -> Result<Expr<Grid<S>>, NoMemory>
     ensures { IfOk result (λ e. poly_of e ≡ minus (poly_of a.entry) (poly_of b.entry)) }
 {
     let a = Box::new(alloc, a)?;
@@ -37,7 +38,7 @@ pub fn mul<const S: u32>(
     alloc: Global,
     a: Expr<Grid<S>>,
     b: Expr<Grid<S>>,
-) -> Result<Expr<Grid<S>>, AllocError>
+) -> Result<Expr<Grid<S>>, NoMemory>
     ensures { IfOk result (λ e. poly_of e ≡ times (poly_of a.entry) (poly_of b.entry)) }
 {
     let a = Box::new(alloc, a)?;
@@ -49,14 +50,14 @@ pub fn mul<const S: u32>(
 pub fn squared_number<const S: u32>(
     alloc: Global,
     value: Grid<S>,
-) -> Result<Expr<Grid<S>>, AllocError>
+) -> Result<Expr<Grid<S>>, NoMemory>
     ensures { IfOk result (λ e. poly_of e ≡ times (number value.entry) (number value.entry)) }
 {
     mul(alloc, Expr::Num(value), Expr::Num(value))
 }
 
 /// An equal tree in memory of its own.
-pub fn copy<const S: u32>(alloc: Global, e: &Expr<Grid<S>>) -> Result<Expr<Grid<S>>, AllocError>
+pub fn copy<const S: u32>(alloc: Global, e: &Expr<Grid<S>>) -> Result<Expr<Grid<S>>, NoMemory>
     ensures { IfOk result (λ f. poly_of f ≡ poly_of e.now) }
 {
     match e {

@@ -4,10 +4,11 @@ ghost use Rattle.sk_expr.specs.Trees.{poly_of};
 ghost use Rattle.sk_expr.specs.VectorViews.{vector_of};
 ghost use Rattle.sk_expr.specs.Formula.{formula, then_auxiliaries, then_cosine, then_relation, then_rows, parallel, perpendicular};
 
+use crate::NoMemory;
 use crate::expr::Tree;
 use crate::vectors::Vector;
 use sk_num::{Items, Span};
-use std::alloc::{AllocError, Global};
+use std::alloc::Global;
 
 /// An unknown `x` with a row of its own.
 #[derive(Debug, Drop)]
@@ -55,7 +56,7 @@ impl<const S: u32> Formula<S> {
     }
 
     /// The formula with one more auxiliary.
-    pub fn auxiliary(self, auxiliary: Auxiliary<S>) -> Result<Formula<S>, AllocError>
+    pub fn auxiliary(self, auxiliary: Auxiliary<S>) -> Result<Formula<S>, NoMemory>
         ensures formula { IfOk result (λ f. formula_of f ≡ then_auxiliaries (formula_of self.entry) (auxiliary_of {s = S} auxiliary.entry ∷ [])) }
         ensures sizes { IfOk result (λ f. (length f.auxiliaries ≡ length self.entry.auxiliaries + 1)
             × (length f.cosines ≡ length self.entry.cosines) × (length f.relations ≡ length self.entry.relations)) }
@@ -66,7 +67,7 @@ impl<const S: u32> Formula<S> {
     }
 
     /// The formula with one more cosine.
-    pub fn cosine(self, cosine: Span<S>) -> Result<Formula<S>, AllocError>
+    pub fn cosine(self, cosine: Span<S>) -> Result<Formula<S>, NoMemory>
         ensures formula { IfOk result (λ f. formula_of f ≡ then_cosine (formula_of self.entry) cosine.entry) }
         ensures sizes { IfOk result (λ f. (length f.auxiliaries ≡ length self.entry.auxiliaries)
             × (length f.cosines ≡ length self.entry.cosines + 1) × (length f.relations ≡ length self.entry.relations)) }
@@ -77,7 +78,7 @@ impl<const S: u32> Formula<S> {
     }
 
     /// The formula with one more relation.
-    pub fn relation(self, relation: Relation<S>) -> Result<Formula<S>, AllocError>
+    pub fn relation(self, relation: Relation<S>) -> Result<Formula<S>, NoMemory>
         ensures formula { IfOk result (λ f. formula_of f ≡ then_relation (formula_of self.entry) (relation_of {s = S} relation.entry)) }
         ensures sizes { IfOk result (λ f. (length f.auxiliaries ≡ length self.entry.auxiliaries)
             × (length f.cosines ≡ length self.entry.cosines) × (length f.relations ≡ length self.entry.relations + 1)) }
@@ -88,7 +89,7 @@ impl<const S: u32> Formula<S> {
     }
 
     /// The formula with one more relation row.
-    pub fn row(self, tree: Tree<S>) -> Result<Formula<S>, AllocError>
+    pub fn row(self, tree: Tree<S>) -> Result<Formula<S>, NoMemory>
         ensures formula { IfOk result (λ f. formula_of f ≡ then_rows (formula_of self.entry) (poly_of tree.entry ∷ [])) }
         ensures sizes { IfOk result (λ f. (length f.auxiliaries ≡ length self.entry.auxiliaries)
             × (length f.cosines ≡ length self.entry.cosines) × (length f.relations ≡ length self.entry.relations + 1)) }
@@ -99,7 +100,7 @@ impl<const S: u32> Formula<S> {
 
     /// The formula with each component of a vector as one more relation row.
     #[tactic(auto, unfolding(crate::specs::VectorViews::vector_of))]
-    pub fn components(self, a: Vector<S>) -> Result<Formula<S>, AllocError>
+    pub fn components(self, a: Vector<S>) -> Result<Formula<S>, NoMemory>
         ensures formula { IfOk result (λ f. formula_of f ≡ then_rows (formula_of self.entry) (vector_of a.entry)) }
         ensures sizes { IfOk result (λ f. (length f.auxiliaries ≡ length self.entry.auxiliaries)
             × (length f.cosines ≡ length self.entry.cosines) × (length f.relations ≤ length self.entry.relations + 3)) }
@@ -123,7 +124,7 @@ impl<const S: u32> Formula<S> {
         flat: bool,
         a: Vector<S>,
         b: &Vector<S>,
-    ) -> Result<Formula<S>, AllocError>
+    ) -> Result<Formula<S>, NoMemory>
         ensures formula { IfOk result (λ f. formula_of f ≡ parallel flat (vector_of a.entry) (vector_of b.now)) }
         ensures sizes { IfOk result (λ f. (length f.auxiliaries ≡ 0) × (length f.cosines ≡ 0) × (length f.relations ≡ 1)) }
     {
@@ -144,7 +145,7 @@ impl<const S: u32> Formula<S> {
         alloc: Global,
         a: &Vector<S>,
         b: &Vector<S>,
-    ) -> Result<Formula<S>, AllocError>
+    ) -> Result<Formula<S>, NoMemory>
         ensures formula { IfOk result (λ f. formula_of f ≡ perpendicular (vector_of a.now) (vector_of b.now)) }
         ensures sizes { IfOk result (λ f. (length f.auxiliaries ≡ 0) × (length f.cosines ≡ 0) × (length f.relations ≡ 1)) }
     {

@@ -8,10 +8,11 @@ ghost use Rattle.sk_expr.specs.SpanValue.{dual_of};
 ghost use Rattle.sk_expr.specs.AbsentSlope.{constant_dual};
 ghost use Rattle.sk_expr.specs.ForwardSlopes.{plain_value, duals_in, operation_of, of_first, of_second, merged, node_duals};
 
+use crate::NoMemory;
 use crate::dual::Dual;
 use crate::node::Node;
 use sk_num::{Grid, Items, Kernel, Span};
-use std::alloc::{AllocError, Global};
+use std::alloc::Global;
 
 /// The operation of a node with two operands.
 #[derive(Clone, Copy, Debug)]
@@ -120,7 +121,7 @@ impl<const S: u32> Merge<'_, S> {
         alloc: Global,
         first: &[Beside<S>],
         second: &[Beside<S>],
-    ) -> Result<Items<Beside<S>>, AllocError>
+    ) -> Result<Items<Beside<S>>, NoMemory>
         requires { IsScale S }
         ensures { IfOk result (λ v. v ≡ merged (operation_of S self.now.operation) self.now.first.now self.now.second.now first.now second.now) }
     {
@@ -141,7 +142,7 @@ fn joined<const S: u32>(
     earlier: &[Items<Beside<S>>],
     a: u32,
     b: u32,
-) -> Result<Items<Beside<S>>, AllocError>
+) -> Result<Items<Beside<S>>, NoMemory>
     requires scale { IsScale S }
     requires a_in { a < length earlier.now }
     requires b_in { b < length earlier.now }
@@ -164,7 +165,7 @@ fn own_column<const S: u32>(
     place: u16,
     unknowns: &[Span<S>],
     listed: &[bool],
-) -> Result<Items<Beside<S>>, AllocError>
+) -> Result<Items<Beside<S>>, NoMemory>
     requires { IsScale S }
     ensures { IfOk result (λ v. v ≡
         (if get_or listed.now place false then (place, option_map (λ x. dual_of x (point (pos (2 ^ S)))) (slice_get unknowns.now place)) ∷ [] else [])) }
@@ -198,7 +199,7 @@ fn node_duals<const S: u32>(
     earlier: &[Items<Beside<S>>],
     unknowns: &[Span<S>],
     listed: &[bool],
-) -> Result<Items<Beside<S>>, AllocError>
+) -> Result<Items<Beside<S>>, NoMemory>
     requires scale { IsScale S }
     requires below { HasOperandsBelow (length earlier.now) node.now }
     requires as_many { length earlier.now ≤ length values.now }
@@ -221,7 +222,7 @@ fn marked_duals<const S: u32>(
     earlier: &[Items<Beside<S>>],
     unknowns: &[Span<S>],
     listed: &[bool],
-) -> Result<Items<Beside<S>>, AllocError>
+) -> Result<Items<Beside<S>>, NoMemory>
     requires scale { IsScale S }
     requires below { HasOperandsBelow (length earlier.now) node.now }
     requires as_many { length earlier.now ≤ length values.now }
@@ -243,7 +244,7 @@ pub(crate) fn all_duals<const S: u32>(
     unknowns: &[Span<S>],
     cosines: &[Span<S>],
     listed: &[bool],
-) -> Result<Vec<Items<Beside<S>>>, AllocError>
+) -> Result<Vec<Items<Beside<S>>>, NoMemory>
     requires scale { IsScale S }
     requires earlier { AreEarlier nodes.now }
     requires marks { AreMarks nodes.now marks.now }

@@ -11,6 +11,7 @@ ghost use Rattle.sk_expr.specs.Readings.{add_auxiliary, add_auxiliaries, greates
 ghost use Rattle.sk_expr.specs.Follows.{Follows, Gives};
 ghost use Rattle.sk_expr.specs.declared.fault.VisitFault.TheVariants.{PastLimit};
 
+use crate::NoMemory;
 use crate::building::{copy, mul, sub};
 use crate::expr::{Expr, Tree};
 use crate::fault::VisitFault;
@@ -21,14 +22,10 @@ use crate::vectors::Vector;
 use crate::visited::Forced;
 use sk_num::{Grid, Items, Span};
 use smallvec::SmallVec;
-use std::alloc::{AllocError, Global};
+use std::alloc::Global;
 
 /// The own row of an auxiliary in this column.
-fn own_row<const S: u32>(
-    alloc: Global,
-    column: u16,
-    x: &Auxiliary<S>,
-) -> Result<Tree<S>, AllocError>
+fn own_row<const S: u32>(alloc: Global, column: u16, x: &Auxiliary<S>) -> Result<Tree<S>, NoMemory>
     ensures { IfOk result (λ e. poly_of e ≡ own_row (unknown column) (auxiliary_of {s = S} x.now)) }
 {
     match x {
@@ -133,7 +130,7 @@ fn push_third<const S: u32>(
     alloc: Global,
     trees: &mut Vec<Tree<S>>,
     z: &Option<Tree<S>>,
-) -> Result<(), AllocError>
+) -> Result<(), NoMemory>
     ensures trees { OnOk result (polys_of trees.new.items ≡ polys_of trees.old.items ++ third_of z.now) }
     ensures few { OnOk result (length trees.new.items ≤ length trees.old.items + 1) }
 {
@@ -150,7 +147,7 @@ fn push_without<const S: u32>(
     trees: &mut Vec<Tree<S>>,
     a: &Vector<S>,
     place: usize,
-) -> Result<(), AllocError>
+) -> Result<(), NoMemory>
     requires { place < 3 }
     ensures trees { OnOk result (polys_of trees.new.items ≡ polys_of trees.old.items ++ without place (vector_of a.now)) }
     ensures few { OnOk result (length trees.new.items ≤ length trees.old.items + 2) }
@@ -182,7 +179,7 @@ fn push_lesser<const S: u32>(
     u: &Tree<S>,
     x: Grid<S>,
     y: Grid<S>,
-) -> Result<(), AllocError>
+) -> Result<(), NoMemory>
     ensures trees { OnOk result (polys_of trees.new.items ≡ polys_of trees.old.items ++ lesser_of (poly_of t.now) (poly_of u.now) x.entry y.entry ∷ []) }
     ensures few { OnOk result (length trees.new.items ≤ length trees.old.items + 1) }
 {
@@ -252,10 +249,7 @@ impl<const S: u32> Auxiliaries<S> {
     }
 }
 
-fn push_spans<const S: u32>(
-    cosines: &mut Items<Span<S>>,
-    more: &[Span<S>],
-) -> Result<(), AllocError>
+fn push_spans<const S: u32>(cosines: &mut Items<Span<S>>, more: &[Span<S>]) -> Result<(), NoMemory>
     ensures spans { OnOk result (cosines.new ≡ cosines.old ++ more.now) }
 {
     for cosine in more {
@@ -270,7 +264,7 @@ fn named<const S: u32>(
     kind: RowKind,
     handle: u32,
     trees: &[Tree<S>],
-) -> Result<Rows<S>, AllocError>
+) -> Result<Rows<S>, NoMemory>
     requires { length trees.now ≤ 255 }
     ensures rows { IfOk result (λ v. map (row_of {s = S}) v.items ≡ rows_from kind handle 0 (polys_of trees.now)) }
     ensures few { IfOk result (λ v. length v.items ≡ length trees.now) }

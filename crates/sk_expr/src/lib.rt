@@ -37,6 +37,7 @@ pub use parts::{ConstraintParts, Frame, LineParts, RadiusParts, V3};
 pub use readings::Readings;
 pub use row::{Auxiliaries, Row, RowKind, RowName, Rows};
 pub use sparse::SparseRow;
+pub use std::alloc::AllocError as NoMemory;
 pub use tape::Tape;
 pub use tree_slopes::slopes;
 pub use vectors::Vector;

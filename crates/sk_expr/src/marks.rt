@@ -3,10 +3,11 @@ ghost use Rattle.sk_expr.specs.Tapes.{AreEarlier, HasOperandsBelow, IsTape, plai
 ghost use Rattle.sk_expr.specs.Marks.{AreMarks, is_marked, with_operands};
 ghost use Rattle.sk_expr.specs.NodeLaws.{Grows};
 
+use crate::NoMemory;
 use crate::node::Node;
 use crate::tape::Tape;
 use sk_num::Grid;
-use std::alloc::{AllocError, Global};
+use std::alloc::Global;
 
 fn mark_both(marks: &mut [bool], a: u32, b: u32)
     requires a_in { a < length marks.old }
@@ -44,7 +45,7 @@ fn mark_under<const S: u32>(marks: &mut [bool], nodes: &[Node<Grid<S>>])
 
 impl<const S: u32> Tape<S> {
     /// Marks the nodes under the listed rows, which are those to evaluate.
-    pub(crate) fn marks(&self, alloc: Global, rows: &[u16]) -> Result<Vec<bool>, AllocError>
+    pub(crate) fn marks(&self, alloc: Global, rows: &[u16]) -> Result<Vec<bool>, NoMemory>
         requires form { IsTape (plain_tape self.now) }
         requires rows_in { All (λ r. r < length self.now.roots) rows.now }
         ensures marks { IfOk result (λ v. AreMarks self.now.nodes v.items) }

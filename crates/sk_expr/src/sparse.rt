@@ -8,13 +8,14 @@ ghost use Rattle.sk_expr.specs.SparseRows.{plain_sparse, sparse_slopes, collecte
 ghost use Rattle.sk_expr.specs.EnclosingLaws.{EnclosesRows};
 ghost use Rattle.sk_expr.specs.declared.fault.VisitFault.TheVariants.{PastLimit};
 
+use crate::NoMemory;
 use crate::dual::Dual;
 use crate::fault::VisitFault;
 use crate::forward::{Beside, all_duals};
 use crate::tape::Tape;
 use crate::values::node_values;
 use sk_num::{Items, Span};
-use std::alloc::{AllocError, Global};
+use std::alloc::Global;
 
 /// The columns in which a row has a slope, and the spans of the slopes there.
 #[derive(Debug, Drop)]
@@ -64,7 +65,7 @@ fn picked<const S: u32>(
     alloc: Global,
     duals: &[Beside<S>],
     columns: &[u16],
-) -> Result<Vec<Beside<S>>, AllocError>
+) -> Result<Vec<Beside<S>>, NoMemory>
     ensures { IfOk result (λ v. v.items ≡ picked duals.now columns.now) }
 {
     let mut picked = Vec::new(alloc);
@@ -77,7 +78,7 @@ fn picked<const S: u32>(
 }
 
 /// Which columns are listed.
-fn listed(alloc: Global, count: usize, columns: &[u16]) -> Result<Vec<bool>, AllocError>
+fn listed(alloc: Global, count: usize, columns: &[u16]) -> Result<Vec<bool>, NoMemory>
     requires { All (λ c. c < count) columns.now }
     ensures { IfOk result (λ v. (c : ℕ) → get_or v.items c false ≡ is_among columns.now c) }
 {

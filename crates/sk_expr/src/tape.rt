@@ -5,12 +5,13 @@ ghost use Rattle.sk_expr.specs.Trees.{poly_of};
 ghost use Rattle.sk_expr.specs.Rows.{row_poly};
 ghost use Rattle.sk_expr.specs.Tapes.{put, put_tree, tape_of, plain_tape, IsTape, root_trees, part, part_end, parts_to};
 
+use crate::NoMemory;
 use crate::expr::Expr;
 use crate::node::Node;
 use crate::row::Row;
 use indexmap::IndexSet;
 use sk_num::{Grid, Items};
-use std::alloc::{AllocError, Global};
+use std::alloc::Global;
 
 /// The rows of a system as nodes, of which no two are equal: an expression that occurs often stands
 /// once. The rows are added in order; in a row the left operand comes first, then the right one,
@@ -28,7 +29,7 @@ pub struct Tape<const S: u32> {
 fn put<const S: u32>(
     nodes: &mut IndexSet<Node<Grid<S>>>,
     node: Node<Grid<S>>,
-) -> Result<u32, AllocError>
+) -> Result<u32, NoMemory>
     requires { length nodes.old.keys < 2 ^ 31 }
     ensures nodes { OnOk result (nodes.new.keys ≡ (put nodes.old.keys node.entry).nodes) }
     ensures place { IfOk result (λ p. p ≡ (put nodes.old.keys node.entry).place) }
@@ -41,7 +42,7 @@ fn put<const S: u32>(
 fn put_tree<const S: u32>(
     nodes: &mut IndexSet<Node<Grid<S>>>,
     tree: &Expr<Grid<S>>,
-) -> Result<u32, AllocError>
+) -> Result<u32, NoMemory>
     requires { length nodes.old.keys + nodes_in (poly_of tree.now) < 2 ^ 31 }
     ensures nodes { OnOk result (nodes.new.keys ≡ (put_tree nodes.old.keys (poly_of tree.now)).nodes) }
     ensures place { IfOk result (λ p. p ≡ (put_tree nodes.old.keys (poly_of tree.now)).place) }
@@ -69,7 +70,7 @@ fn put_tree<const S: u32>(
     }
 }
 
-fn put_rows<const S: u32>(alloc: Global, rows: &[Row<S>]) -> Result<Tape<S>, AllocError>
+fn put_rows<const S: u32>(alloc: Global, rows: &[Row<S>]) -> Result<Tape<S>, NoMemory>
     requires { sum_by (λ r. nodes_in (row_poly r)) rows.now < 2 ^ 31 }
     ensures { IfOk result (λ t. plain_tape t ≡ tape_of (map row_poly rows.now)) }
 {
@@ -91,7 +92,7 @@ fn put_rows<const S: u32>(alloc: Global, rows: &[Row<S>]) -> Result<Tape<S>, All
 
 impl<const S: u32> Tape<S> {
     /// The tape of the rows, each row's own node being the root of its tree.
-    pub fn from_rows(alloc: Global, rows: &[Row<S>]) -> Result<Tape<S>, AllocError>
+    pub fn from_rows(alloc: Global, rows: &[Row<S>]) -> Result<Tape<S>, NoMemory>
         requires { sum_by (λ r. nodes_in (row_poly r)) rows.now < 2 ^ 31 }
         ensures value { IfOk result (λ t. plain_tape t ≡ tape_of (map row_poly rows.now)) }
         ensures form { IfOk result (λ t. IsTape (plain_tape t)) }

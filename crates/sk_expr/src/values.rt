@@ -8,11 +8,12 @@ ghost use Rattle.sk_expr.specs.NodeValues.{Knows, node_value};
 ghost use Rattle.sk_expr.specs.Enclosing.{EnclosesValues};
 ghost use Rattle.sk_expr.specs.declared.fault.VisitFault.TheVariants.{PastLimit};
 
+use crate::NoMemory;
 use crate::fault::VisitFault;
 use crate::node::Node;
 use crate::tape::Tape;
 use sk_num::{Grid, Kernel, OfGrid, Span};
-use std::alloc::{AllocError, Global};
+use std::alloc::Global;
 
 /// The value of a node over those of the earlier ones.
 fn node_value<const S: u32, K: Kernel<S>>(
@@ -75,7 +76,7 @@ pub(crate) fn node_values<const S: u32, K: Kernel<S>>(
     marks: &[bool],
     unknowns: &[K],
     cosines: &[K],
-) -> Result<Vec<Option<K>>, AllocError>
+) -> Result<Vec<Option<K>>, NoMemory>
     requires scale { IsScale S }
     requires earlier { AreEarlier nodes.now }
     requires marks { AreMarks nodes.now marks.now }

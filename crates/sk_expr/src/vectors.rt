@@ -7,11 +7,12 @@ ghost use Rattle.sk_expr.specs.PartViews.{v3_of};
 ghost use Rattle.sk_expr.specs.VectorViews.{third_of, vector_of};
 ghost use Rattle.sk_expr.specs.Vectors.{component, vector_sum, vector_difference, scaled, scaled_by, negated, dot, squared, minor, cross, flat_cross, side};
 
+use crate::NoMemory;
 use crate::building::{add, copy, mul, sub};
 use crate::expr::{Expr, Tree};
 use crate::parts::V3;
 use sk_num::Grid;
-use std::alloc::{AllocError, Global};
+use std::alloc::Global;
 
 /// A vector with two components, in a workplane, or three, in space.
 #[derive(Debug, Drop)]
@@ -25,7 +26,7 @@ pub struct Vector<const S: u32> {
 }
 
 /// `a + b`.
-fn sum<const S: u32>(alloc: Global, a: &Tree<S>, b: &Tree<S>) -> Result<Tree<S>, AllocError>
+fn sum<const S: u32>(alloc: Global, a: &Tree<S>, b: &Tree<S>) -> Result<Tree<S>, NoMemory>
     ensures { IfOk result (λ e. poly_of e ≡ plus (poly_of a.now) (poly_of b.now)) }
 {
     let (a, b) = (copy(alloc, a)?, copy(alloc, b)?);
@@ -33,7 +34,7 @@ fn sum<const S: u32>(alloc: Global, a: &Tree<S>, b: &Tree<S>) -> Result<Tree<S>,
 }
 
 /// `a - b`.
-fn difference<const S: u32>(alloc: Global, a: &Tree<S>, b: &Tree<S>) -> Result<Tree<S>, AllocError>
+fn difference<const S: u32>(alloc: Global, a: &Tree<S>, b: &Tree<S>) -> Result<Tree<S>, NoMemory>
     ensures { IfOk result (λ e. poly_of e ≡ minus (poly_of a.now) (poly_of b.now)) }
 {
     let (a, b) = (copy(alloc, a)?, copy(alloc, b)?);
@@ -41,7 +42,7 @@ fn difference<const S: u32>(alloc: Global, a: &Tree<S>, b: &Tree<S>) -> Result<T
 }
 
 /// `a b`.
-fn product<const S: u32>(alloc: Global, a: &Tree<S>, b: &Tree<S>) -> Result<Tree<S>, AllocError>
+fn product<const S: u32>(alloc: Global, a: &Tree<S>, b: &Tree<S>) -> Result<Tree<S>, NoMemory>
     ensures { IfOk result (λ e. poly_of e ≡ times (poly_of a.now) (poly_of b.now)) }
 {
     let (a, b) = (copy(alloc, a)?, copy(alloc, b)?);
@@ -50,7 +51,7 @@ fn product<const S: u32>(alloc: Global, a: &Tree<S>, b: &Tree<S>) -> Result<Tree
 
 impl<const S: u32> V3<S> {
     /// `a + b`.
-    pub fn plus(self, alloc: Global, b: V3<S>) -> Result<V3<S>, AllocError>
+    pub fn plus(self, alloc: Global, b: V3<S>) -> Result<V3<S>, NoMemory>
         ensures { IfOk result (λ v. v3_of v ≡ vector_sum (v3_of self.entry) (v3_of b.entry)) }
     {
         Ok(V3 {
@@ -61,7 +62,7 @@ impl<const S: u32> V3<S> {
     }
 
     /// `a - b`.
-    pub fn less(self, alloc: Global, b: V3<S>) -> Result<V3<S>, AllocError>
+    pub fn less(self, alloc: Global, b: V3<S>) -> Result<V3<S>, NoMemory>
         ensures { IfOk result (λ v. v3_of v ≡ vector_difference (v3_of self.entry) (v3_of b.entry)) }
     {
         Ok(V3 {
@@ -72,7 +73,7 @@ impl<const S: u32> V3<S> {
     }
 
     /// `k a`.
-    pub fn times(self, alloc: Global, k: &Tree<S>) -> Result<V3<S>, AllocError>
+    pub fn times(self, alloc: Global, k: &Tree<S>) -> Result<V3<S>, NoMemory>
         ensures { IfOk result (λ v. v3_of v ≡ scaled (poly_of k.now) (v3_of self.entry)) }
     {
         Ok(V3 {
@@ -83,7 +84,7 @@ impl<const S: u32> V3<S> {
     }
 
     /// `a k`.
-    pub fn times_number(self, alloc: Global, k: Grid<S>) -> Result<V3<S>, AllocError>
+    pub fn times_number(self, alloc: Global, k: Grid<S>) -> Result<V3<S>, NoMemory>
         ensures { IfOk result (λ v. v3_of v ≡ scaled_by (v3_of self.entry) (number k.entry)) }
     {
         Ok(V3 {
@@ -94,7 +95,7 @@ impl<const S: u32> V3<S> {
     }
 
     /// `a . b`.
-    pub fn dot(&self, alloc: Global, b: &V3<S>) -> Result<Tree<S>, AllocError>
+    pub fn dot(&self, alloc: Global, b: &V3<S>) -> Result<Tree<S>, NoMemory>
         ensures { IfOk result (λ e. poly_of e ≡ dot (v3_of self.now) (v3_of b.now)) }
     {
         let x = product(alloc, &self.x, &b.x)?;
@@ -105,7 +106,7 @@ impl<const S: u32> V3<S> {
     }
 
     /// The cross product of `a` and `b`.
-    pub fn cross(&self, alloc: Global, b: &V3<S>) -> Result<V3<S>, AllocError>
+    pub fn cross(&self, alloc: Global, b: &V3<S>) -> Result<V3<S>, NoMemory>
         ensures { IfOk result (λ v. v3_of v ≡ cross (v3_of self.now) (v3_of b.now)) }
     {
         Ok(V3 {
@@ -116,7 +117,7 @@ impl<const S: u32> V3<S> {
     }
 
     /// An equal vector in memory of its own.
-    pub fn copy(&self, alloc: Global) -> Result<V3<S>, AllocError>
+    pub fn copy(&self, alloc: Global) -> Result<V3<S>, NoMemory>
         ensures { IfOk result (λ v. v3_of v ≡ v3_of self.now) }
     {
         Ok(V3 {
@@ -134,7 +135,7 @@ fn minor<const S: u32>(
     b: &Tree<S>,
     c: &Tree<S>,
     d: &Tree<S>,
-) -> Result<Tree<S>, AllocError>
+) -> Result<Tree<S>, NoMemory>
     ensures { IfOk result (λ e. poly_of e ≡
         minus (times (poly_of a.now) (poly_of b.now)) (times (poly_of c.now) (poly_of d.now))) }
 {
@@ -145,7 +146,7 @@ fn minor<const S: u32>(
 
 impl<const S: u32> Vector<S> {
     /// `a + b`, with three components where both have three.
-    pub fn plus(&self, alloc: Global, b: &Vector<S>) -> Result<Vector<S>, AllocError>
+    pub fn plus(&self, alloc: Global, b: &Vector<S>) -> Result<Vector<S>, NoMemory>
         ensures { IfOk result (λ v. vector_of v ≡ vector_sum (vector_of self.now) (vector_of b.now)) }
     {
         let z = match (&self.z, &b.z) {
@@ -160,7 +161,7 @@ impl<const S: u32> Vector<S> {
     }
 
     /// `a - b`, with three components where both have three.
-    pub fn less(&self, alloc: Global, b: &Vector<S>) -> Result<Vector<S>, AllocError>
+    pub fn less(&self, alloc: Global, b: &Vector<S>) -> Result<Vector<S>, NoMemory>
         ensures { IfOk result (λ v. vector_of v ≡ vector_difference (vector_of self.now) (vector_of b.now)) }
     {
         let z = match (&self.z, &b.z) {
@@ -175,7 +176,7 @@ impl<const S: u32> Vector<S> {
     }
 
     /// `k a`.
-    pub fn times(&self, alloc: Global, k: &Tree<S>) -> Result<Vector<S>, AllocError>
+    pub fn times(&self, alloc: Global, k: &Tree<S>) -> Result<Vector<S>, NoMemory>
         ensures { IfOk result (λ v. vector_of v ≡ scaled (poly_of k.now) (vector_of self.now)) }
     {
         let z = match &self.z {
@@ -190,7 +191,7 @@ impl<const S: u32> Vector<S> {
     }
 
     /// `0 - a`.
-    pub fn negated(&self, alloc: Global) -> Result<Vector<S>, AllocError>
+    pub fn negated(&self, alloc: Global) -> Result<Vector<S>, NoMemory>
         ensures { IfOk result (λ v. vector_of v ≡ negated (vector_of self.now)) }
     {
         let zero = Expr::Num(Grid::zero());
@@ -206,7 +207,7 @@ impl<const S: u32> Vector<S> {
     }
 
     /// `a . b`.
-    pub fn dot(&self, alloc: Global, b: &Vector<S>) -> Result<Tree<S>, AllocError>
+    pub fn dot(&self, alloc: Global, b: &Vector<S>) -> Result<Tree<S>, NoMemory>
         ensures { IfOk result (λ e. poly_of e ≡ dot (vector_of self.now) (vector_of b.now)) }
     {
         let x = product(alloc, &self.x, &b.x)?;
@@ -222,28 +223,28 @@ impl<const S: u32> Vector<S> {
     }
 
     /// `|a|^2`.
-    pub fn squared(&self, alloc: Global) -> Result<Tree<S>, AllocError>
+    pub fn squared(&self, alloc: Global) -> Result<Tree<S>, NoMemory>
         ensures { IfOk result (λ e. poly_of e ≡ squared (vector_of self.now)) }
     {
         self.dot(alloc, self)
     }
 
     /// `a.u b.v - a.v b.u`, of the first two components.
-    pub fn flat_cross(&self, alloc: Global, b: &Vector<S>) -> Result<Tree<S>, AllocError>
+    pub fn flat_cross(&self, alloc: Global, b: &Vector<S>) -> Result<Tree<S>, NoMemory>
         ensures { IfOk result (λ e. poly_of e ≡ flat_cross (vector_of self.now) (vector_of b.now)) }
     {
         minor(alloc, &self.x, &b.y, &self.y, &b.x)
     }
 
     /// `a.v b.u - a.u b.v`, of the first two components.
-    pub fn side(&self, alloc: Global, b: &Vector<S>) -> Result<Tree<S>, AllocError>
+    pub fn side(&self, alloc: Global, b: &Vector<S>) -> Result<Tree<S>, NoMemory>
         ensures { IfOk result (λ e. poly_of e ≡ side (vector_of self.now) (vector_of b.now)) }
     {
         minor(alloc, &self.y, &b.x, &self.x, &b.y)
     }
 
     /// The third component, 0 in a workplane.
-    fn third(&self, alloc: Global) -> Result<Tree<S>, AllocError>
+    fn third(&self, alloc: Global) -> Result<Tree<S>, NoMemory>
         ensures { IfOk result (λ e. poly_of e ≡ component (vector_of self.now) 2) }
     {
         match &self.z {
@@ -253,7 +254,7 @@ impl<const S: u32> Vector<S> {
     }
 
     /// The cross product of `a` and `b`, in space.
-    pub fn cross(&self, alloc: Global, b: &Vector<S>) -> Result<Vector<S>, AllocError>
+    pub fn cross(&self, alloc: Global, b: &Vector<S>) -> Result<Vector<S>, NoMemory>
         ensures { IfOk result (λ v. vector_of v ≡ cross (vector_of self.now) (vector_of b.now)) }
     {
         let (z, w) = (self.third(alloc)?, b.third(alloc)?);

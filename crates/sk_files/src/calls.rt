@@ -3,7 +3,8 @@ ghost use Rattle.std.specs.Prelude.{◌≡◌, ◌≤◌, ◌++◌, ◌∷◌, [
 ghost use Rattle.sk_files.specs.Calls.{fails_next, after_call};
 ghost use Rattle.sk_files.specs.Outcome.{Rose};
 
-use std::alloc::{AllocError, Global};
+use crate::NoMemory;
+use std::alloc::Global;
 use std::marker::Model;
 
 /// Calls numbered from 0, with a list of those that fail.
@@ -34,7 +35,7 @@ impl Calls {
     }
 
     /// The call with this number fails.
-    pub(crate) fn fail_at(&mut self, call: u64) -> Result<(), AllocError>
+    pub(crate) fn fail_at(&mut self, call: u64) -> Result<(), NoMemory>
         ensures ok { OnOk result (self.new ≡ record self.old { listed = self.old.listed ++ call ∷ [] }) }
         ensures err { OnErr result (self.new ≡ self.old) }
     {

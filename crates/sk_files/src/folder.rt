@@ -5,7 +5,8 @@ ghost use Rattle.sk_files.specs.Files.{Files, OnTold, IsOnceEach, IsTheRead, Wri
 ghost use Rattle.sk_files.specs.Taken.{Takes, TakesPrefix};
 ghost use Rattle.sk_files.specs.declared.folder.OuterFault.TheVariants.{NoMemory};
 
-use std::alloc::{AllocError, Global};
+use crate::NoMemory;
+use std::alloc::Global;
 
 /// Why a call to the outside gave no answer.
 #[derive(Clone, Copy, Debug, PartialEq, Eq)]
@@ -16,10 +17,10 @@ pub enum OuterFault {
     NoMemory,
 }
 
-impl From<AllocError> for OuterFault {
+impl From<NoMemory> for OuterFault {
     ghost from_gives = { λ _ e. e ≡ NoMemory };
 
-    fn from(_: AllocError) -> Self {
+    fn from(_: NoMemory) -> Self {
         OuterFault::NoMemory
     }
 }

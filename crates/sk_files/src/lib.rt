@@ -17,3 +17,4 @@ pub use folder::{Folder, OuterFault, Sink};
 pub use mem_folder::MemFolder;
 pub use mem_sink::MemSink;
 pub use out::OutSink;
+pub use std::alloc::AllocError as NoMemory;

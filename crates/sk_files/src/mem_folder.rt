@@ -7,8 +7,8 @@ ghost use Rattle.sk_files.specs.Calls.{fails_next, after_call};
 ghost use Rattle.sk_files.specs.Mem.{files_of, place_from};
 
 use crate::calls::Calls;
-use crate::{Folder, OuterFault};
-use std::alloc::{AllocError, Global};
+use crate::{Folder, NoMemory, OuterFault};
+use std::alloc::Global;
 use std::marker::Model;
 
 /// A file with its name.
@@ -63,12 +63,7 @@ fn bytes_of<'f>(files: &'f [Held], name: &str) -> Option<&'f [u8]>
 
 // Sets the file with this name to these bytes.
 
-fn set_file(
-    alloc: Global,
-    files: &mut Vec<Held>,
-    name: &str,
-    bytes: &[u8],
-) -> Result<(), AllocError>
+fn set_file(alloc: Global, files: &mut Vec<Held>, name: &str, bytes: &[u8]) -> Result<(), NoMemory>
     ensures ok { OnOk result (files_of files.new.items ≡ with_file (files_of files.old.items) name.now bytes.now) }
     ensures err { OnErr result (files_of files.new.items ≡ files_of files.old.items) }
 {
@@ -97,7 +92,7 @@ impl MemFolder {
     }
 
     /// Sets the file with this name to these bytes. It counts as no call.
-    pub fn hold(&mut self, name: &str, bytes: &[u8]) -> Result<(), AllocError>
+    pub fn hold(&mut self, name: &str, bytes: &[u8]) -> Result<(), NoMemory>
         ensures calls { self.new.calls ≡ self.old.calls }
         ensures ok { OnOk result (self.new.files ≡ with_file self.old.files name.now bytes.now) }
         ensures err { OnErr result (self.new.files ≡ self.old.files) }
@@ -107,7 +102,7 @@ impl MemFolder {
 
     /// The call of `read` or `write` with this number, counted together from 0, fails and leaves
     /// all files as they were.
-    pub fn fail_at(&mut self, call: u64) -> Result<(), AllocError>
+    pub fn fail_at(&mut self, call: u64) -> Result<(), NoMemory>
         ensures files { self.new.files ≡ self.old.files }
         ensures ok { OnOk result (self.new.calls ≡ record self.old.calls { listed = self.old.calls.listed ++ call ∷ [] }) }
         ensures err { OnErr result (self.new.calls ≡ self.old.calls) }

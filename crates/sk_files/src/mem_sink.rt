@@ -5,8 +5,8 @@ ghost use Rattle.sk_files.specs.Taken.{Takes};
 ghost use Rattle.sk_files.specs.Calls.{fails_next, after_call};
 
 use crate::calls::Calls;
-use crate::{OuterFault, Sink};
-use std::alloc::{AllocError, Global};
+use crate::{NoMemory, OuterFault, Sink};
+use std::alloc::Global;
 use std::marker::Model;
 
 /// A sink in memory. It tells the bytes that it took, and fails at the calls that are listed.
@@ -37,7 +37,7 @@ impl MemSink {
     }
 
     /// The call of `put` with this number, counted from 0, fails and takes nothing.
-    pub fn fail_at(&mut self, call: u64) -> Result<(), AllocError>
+    pub fn fail_at(&mut self, call: u64) -> Result<(), NoMemory>
         ensures taken { self.new.taken ≡ self.old.taken }
         ensures ok { OnOk result (self.new.calls ≡ record self.old.calls { listed = self.old.calls.listed ++ call ∷ [] }) }
         ensures err { OnErr result (self.new ≡ self.old) }

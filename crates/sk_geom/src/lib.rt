@@ -20,4 +20,5 @@ pub use laws::{range_law, times_law};
 pub use line_frame::frame_quaternion;
 pub use quaternions::quat_axes;
 pub use source::Source;
+pub use std::alloc::AllocError as NoMemory;
 pub use trees::{distance_tree, frame, in_plane, point_tree, quat_tree};

@@ -8,9 +8,10 @@ ghost use Rattle.sk_expr.specs.Trees.{poly_of};
 ghost use Rattle.sk_expr.specs.PartViews.{v3_of, axes_of};
 ghost use Rattle.sk_geom.specs.Quaternions.{quaternion_axes, quaternion_product, twice};
 
+use crate::NoMemory;
 use sk_expr::{Expr, Tree, V3, add, copy, mul, sub};
 use sk_num::Grid;
-use std::alloc::{AllocError, Global};
+use std::alloc::Global;
 
 /// The number 2.
 fn two<const S: u32>() -> Grid<S>
@@ -21,7 +22,7 @@ fn two<const S: u32>() -> Grid<S>
 }
 
 /// `a b`.
-fn product<const S: u32>(alloc: Global, a: &Tree<S>, b: &Tree<S>) -> Result<Tree<S>, AllocError>
+fn product<const S: u32>(alloc: Global, a: &Tree<S>, b: &Tree<S>) -> Result<Tree<S>, NoMemory>
     ensures { IfOk result (λ e. poly_of e ≡ times (poly_of a.now) (poly_of b.now)) }
 {
     let (a, b) = (copy(alloc, a)?, copy(alloc, b)?);
@@ -29,7 +30,7 @@ fn product<const S: u32>(alloc: Global, a: &Tree<S>, b: &Tree<S>) -> Result<Tree
 }
 
 /// `2 a b`.
-fn twice<const S: u32>(alloc: Global, a: &Tree<S>, b: &Tree<S>) -> Result<Tree<S>, AllocError>
+fn twice<const S: u32>(alloc: Global, a: &Tree<S>, b: &Tree<S>) -> Result<Tree<S>, NoMemory>
     requires { IsScale S }
     ensures { IfOk result (λ e. poly_of e ≡ twice S (poly_of a.now) (poly_of b.now)) }
 {
@@ -37,7 +38,7 @@ fn twice<const S: u32>(alloc: Global, a: &Tree<S>, b: &Tree<S>) -> Result<Tree<S
     mul(alloc, a, copy(alloc, b)?)
 }
 
-fn axis_u<const S: u32>(alloc: Global, q: &[Tree<S>; 4]) -> Result<V3<S>, AllocError>
+fn axis_u<const S: u32>(alloc: Global, q: &[Tree<S>; 4]) -> Result<V3<S>, NoMemory>
     requires { IsScale S }
     ensures { IfOk result (λ v. v3_of v ≡ (quaternion_axes S (map poly_of q.now)).u) }
 {
@@ -51,7 +52,7 @@ fn axis_u<const S: u32>(alloc: Global, q: &[Tree<S>; 4]) -> Result<V3<S>, AllocE
     })
 }
 
-fn axis_v<const S: u32>(alloc: Global, q: &[Tree<S>; 4]) -> Result<V3<S>, AllocError>
+fn axis_v<const S: u32>(alloc: Global, q: &[Tree<S>; 4]) -> Result<V3<S>, NoMemory>
     requires { IsScale S }
     ensures { IfOk result (λ v. v3_of v ≡ (quaternion_axes S (map poly_of q.now)).v) }
 {
@@ -65,7 +66,7 @@ fn axis_v<const S: u32>(alloc: Global, q: &[Tree<S>; 4]) -> Result<V3<S>, AllocE
     })
 }
 
-fn axis_n<const S: u32>(alloc: Global, q: &[Tree<S>; 4]) -> Result<V3<S>, AllocError>
+fn axis_n<const S: u32>(alloc: Global, q: &[Tree<S>; 4]) -> Result<V3<S>, NoMemory>
     requires { IsScale S }
     ensures { IfOk result (λ v. v3_of v ≡ (quaternion_axes S (map poly_of q.now)).n) }
 {
@@ -82,7 +83,7 @@ fn axis_n<const S: u32>(alloc: Global, q: &[Tree<S>; 4]) -> Result<V3<S>, AllocE
 /// The axes U, V and N of the quaternion (w, x, y, z): where it turns the first, second and third axis of space, times its
 /// squared length. SolveSpace's own formulas.
 #[tactic(auto)]
-pub fn quat_axes<const S: u32>(alloc: Global, q: &[Tree<S>; 4]) -> Result<[V3<S>; 3], AllocError>
+pub fn quat_axes<const S: u32>(alloc: Global, q: &[Tree<S>; 4]) -> Result<[V3<S>; 3], NoMemory>
     requires { IsScale S }
     ensures { IfOk result (λ a. axes_of a ≡ quaternion_axes S (map poly_of q.now)) }
 {
@@ -97,7 +98,7 @@ pub(crate) fn quat_product<const S: u32>(
     alloc: Global,
     p: &[Tree<S>; 4],
     q: &[Tree<S>; 4],
-) -> Result<[Tree<S>; 4], AllocError>
+) -> Result<[Tree<S>; 4], NoMemory>
     ensures { IfOk result (λ r. map poly_of r ≡ quaternion_product (map poly_of p.now) (map poly_of q.now)) }
 {
     let [w, x, y, z] = p;

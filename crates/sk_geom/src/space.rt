@@ -12,12 +12,13 @@ ghost use Rattle.sk_geom.specs.Sources.{IsSource, three_numbers, four_numbers};
 ghost use Rattle.sk_geom.specs.EntityTrees.{whole_units, moved_point, turned_point, own_point, space_point, own_normal, space_normal, point_named, normal_named};
 ghost use Rattle.sk_geom.specs.Views.{source_of};
 
+use crate::NoMemory;
 use crate::quaternions::{quat_axes, quat_product};
 use crate::source::Source;
 use sk_expr::{Expr, Tree, V3};
 use sk_num::Grid;
 use sk_types::{Entity, EntityId, Numbering, entity_at, entity_kind};
-use std::alloc::{AllocError, Global};
+use std::alloc::Global;
 
 /// The whole number `k`; 0 past the limit.
 pub(crate) fn whole_units<const S: u32>(k: i32) -> Grid<S>
@@ -84,12 +85,7 @@ impl<'a, const S: u32> Source<'a, S> {
 
     /// `p + k t`.
     #[tactic(auto, unfolding(crate::specs::EntityTrees::moved_point))]
-    fn moved_point(
-        &self,
-        alloc: Global,
-        of_entity: EntityId,
-        times: i32,
-    ) -> Result<V3<S>, AllocError>
+    fn moved_point(&self, alloc: Global, of_entity: EntityId, times: i32) -> Result<V3<S>, NoMemory>
         requires scale { IsScale S }
         requires source { IsSource (source_of self.now) }
         ensures { IfOk result (λ v. v3_of v ≡ moved_point (source_of self.now) of_entity times) }
@@ -103,7 +99,7 @@ impl<'a, const S: u32> Source<'a, S> {
 
     /// `U x + V y + N z + t`.
     #[tactic(auto, unfolding(crate::specs::EntityTrees::turned_point))]
-    fn turned_point(&self, alloc: Global, values: &[Grid<S>; 4]) -> Result<V3<S>, AllocError>
+    fn turned_point(&self, alloc: Global, values: &[Grid<S>; 4]) -> Result<V3<S>, NoMemory>
         requires scale { IsScale S }
         requires source { IsSource (source_of self.now) }
         ensures { IfOk result (λ v. v3_of v ≡ turned_point (source_of self.now) values.now) }
@@ -123,7 +119,7 @@ impl<'a, const S: u32> Source<'a, S> {
         alloc: Global,
         id: EntityId,
         numbers: &Numbering<S>,
-    ) -> Result<V3<S>, AllocError>
+    ) -> Result<V3<S>, NoMemory>
         requires scale { IsScale S }
         requires source { IsSource (source_of self.now) }
         ensures { IfOk result (λ v. v3_of v ≡ own_point (source_of self.now) id numbers.now) }
@@ -138,7 +134,7 @@ impl<'a, const S: u32> Source<'a, S> {
     }
 
     /// A point of any kind but one in a workplane.
-    pub(crate) fn space_point(&self, alloc: Global, e: &Entity<S>) -> Result<V3<S>, AllocError>
+    pub(crate) fn space_point(&self, alloc: Global, e: &Entity<S>) -> Result<V3<S>, NoMemory>
         requires scale { IsScale S }
         requires source { IsSource (source_of self.now) }
         ensures { IfOk result (λ v. v3_of v ≡ space_point (source_of self.now) e.now) }
@@ -156,7 +152,7 @@ impl<'a, const S: u32> Source<'a, S> {
         id: EntityId,
         kind: u16,
         numbers: &Numbering<S>,
-    ) -> Result<[Tree<S>; 4], AllocError>
+    ) -> Result<[Tree<S>; 4], NoMemory>
         requires { IsSource (source_of self.now) }
         ensures { IfOk result (λ q. map poly_of q ≡ own_normal (source_of self.now) id kind numbers.now) }
     {
@@ -180,7 +176,7 @@ impl<'a, const S: u32> Source<'a, S> {
         &self,
         alloc: Global,
         e: &Entity<S>,
-    ) -> Result<[Tree<S>; 4], AllocError>
+    ) -> Result<[Tree<S>; 4], NoMemory>
         requires { IsSource (source_of self.now) }
         ensures { IfOk result (λ q. map poly_of q ≡ space_normal (source_of self.now) e.now) }
     {
@@ -193,7 +189,7 @@ impl<'a, const S: u32> Source<'a, S> {
 
     /// A workplane's point.
     #[tactic(auto, unfolding(crate::specs::EntityTrees::point_named))]
-    pub(crate) fn point_named(&self, alloc: Global, id: EntityId) -> Result<V3<S>, AllocError>
+    pub(crate) fn point_named(&self, alloc: Global, id: EntityId) -> Result<V3<S>, NoMemory>
         requires scale { IsScale S }
         requires source { IsSource (source_of self.now) }
         ensures { IfOk result (λ v. v3_of v ≡ point_named (source_of self.now) id) }
@@ -206,11 +202,7 @@ impl<'a, const S: u32> Source<'a, S> {
 
     /// A workplane's normal.
     #[tactic(auto, unfolding(crate::specs::EntityTrees::normal_named))]
-    pub(crate) fn normal_named(
-        &self,
-        alloc: Global,
-        id: EntityId,
-    ) -> Result<[Tree<S>; 4], AllocError>
+    pub(crate) fn normal_named(&self, alloc: Global, id: EntityId) -> Result<[Tree<S>; 4], NoMemory>
         requires { IsSource (source_of self.now) }
         ensures { IfOk result (λ q. map poly_of q ≡ normal_named (source_of self.now) id) }
     {

@@ -10,13 +10,14 @@ ghost use Rattle.sk_geom.specs.Sources.{IsSource, number_at};
 ghost use Rattle.sk_geom.specs.EntityTrees.{frame, own_pair, point_in, drawn_point, point_tree, normal_tree, distance_tree, projected, flat_tree};
 ghost use Rattle.sk_geom.specs.Views.{source_of};
 
+use crate::NoMemory;
 use crate::quaternions::quat_axes;
 use crate::source::Source;
 use crate::space::{first_named, no_normal, no_point};
 use sk_expr::{Expr, Frame, Tree, V3};
 use sk_num::Grid;
 use sk_types::{Entity, Numbering, entity_kind};
-use std::alloc::{AllocError, Global};
+use std::alloc::Global;
 
 /// The frame of a workplane: its origin is its point, its axes are those of its normal.
 #[tactic(auto, unfolding(crate::specs::EntityTrees::frame))]
@@ -24,7 +25,7 @@ pub fn frame<const S: u32>(
     alloc: Global,
     workplane: &Entity<S>,
     source: &Source<'_, S>,
-) -> Result<Frame<S>, AllocError>
+) -> Result<Frame<S>, NoMemory>
     requires scale { IsScale S }
     requires source { IsSource (source_of source.now) }
     ensures { IfOk result (λ f. frame_of f ≡ frame (source_of source.now) workplane.now) }
@@ -52,11 +53,7 @@ fn own_pair<const S: u32>(source: &Source<'_, S>, numbers: &Numbering<S>) -> [Tr
 
 /// `o + u U + v V`.
 #[tactic(auto, unfolding(crate::specs::EntityTrees::point_in))]
-fn point_in<const S: u32>(
-    alloc: Global,
-    f: Frame<S>,
-    uv: &[Tree<S>; 2],
-) -> Result<V3<S>, AllocError>
+fn point_in<const S: u32>(alloc: Global, f: Frame<S>, uv: &[Tree<S>; 2]) -> Result<V3<S>, NoMemory>
     ensures { IfOk result (λ v. v3_of v ≡ point_in (frame_of f.entry) (map poly_of uv.now)) }
 {
     let [u, v] = uv;
@@ -78,7 +75,7 @@ fn drawn_point<const S: u32>(
     e: &Entity<S>,
     workplane: Option<&Entity<S>>,
     source: &Source<'_, S>,
-) -> Result<V3<S>, AllocError>
+) -> Result<V3<S>, NoMemory>
     requires scale { IsScale S }
     requires source { IsSource (source_of source.now) }
     ensures { IfOk result (λ v. v3_of v ≡ drawn_point (source_of source.now) e.now (option_copied workplane.entry)) }
@@ -98,7 +95,7 @@ pub fn point_tree<const S: u32>(
     alloc: Global,
     e: &Entity<S>,
     source: &Source<'_, S>,
-) -> Result<V3<S>, AllocError>
+) -> Result<V3<S>, NoMemory>
     requires scale { IsScale S }
     requires source { IsSource (source_of source.now) }
     ensures { IfOk result (λ v. v3_of v ≡ point_tree (source_of source.now) e.now) }
@@ -116,7 +113,7 @@ pub fn quat_tree<const S: u32>(
     alloc: Global,
     e: &Entity<S>,
     source: &Source<'_, S>,
-) -> Result<[Tree<S>; 4], AllocError>
+) -> Result<[Tree<S>; 4], NoMemory>
     requires { IsSource (source_of source.now) }
     ensures { IfOk result (λ q. map poly_of q ≡ normal_tree (source_of source.now) e.now) }
 {
@@ -143,7 +140,7 @@ pub fn distance_tree<const S: u32>(
     alloc: Global,
     e: &Entity<S>,
     source: &Source<'_, S>,
-) -> Result<Tree<S>, AllocError>
+) -> Result<Tree<S>, NoMemory>
     requires { IsSource (source_of source.now) }
     ensures { IfOk result (λ d. poly_of d ≡ distance_tree (source_of source.now) e.now) }
 {
@@ -160,7 +157,7 @@ pub fn distance_tree<const S: u32>(
 
 /// `((p - o) . U, (p - o) . V)`.
 #[tactic(auto, unfolding(crate::specs::EntityTrees::projected))]
-fn projected<const S: u32>(alloc: Global, f: Frame<S>, p: V3<S>) -> Result<[Tree<S>; 2], AllocError>
+fn projected<const S: u32>(alloc: Global, f: Frame<S>, p: V3<S>) -> Result<[Tree<S>; 2], NoMemory>
     ensures { IfOk result (λ uv. map poly_of uv ≡ projected (frame_of f.entry) (v3_of p.entry)) }
 {
     let Frame { origin, u, v, n: _ } = f;
@@ -178,7 +175,7 @@ pub fn in_plane<const S: u32>(
     e: &Entity<S>,
     workplane: &Entity<S>,
     source: &Source<'_, S>,
-) -> Result<[Tree<S>; 2], AllocError>
+) -> Result<[Tree<S>; 2], NoMemory>
     requires scale { IsScale S }
     requires source { IsSource (source_of source.now) }
     ensures { IfOk result (λ uv. map poly_of uv ≡ flat_tree (source_of source.now) workplane.now e.now) }

@@ -5,13 +5,14 @@ ghost use Rattle.sk_expr.specs.declared.fault.VisitFault.TheVariants.{PastLimit,
 ghost use Rattle.sk_krawczyk.specs.IntervalTest.{box_test, over_limit};
 ghost use Rattle.sk_krawczyk.specs.Answers.{radius_of_log, IsMet, IsPresent, IsSound, IsGiven, given_basis, plain_basis};
 
+use crate::NoMemory;
 use crate::basis::Basis;
 use crate::boxes::box_test;
 use crate::certificate::{Certificate, Given};
 use crate::lists::{count, others, points};
 use crate::newton::newton_step;
 use sk_expr::{VisitFault, Visited};
-use std::alloc::{AllocError, Global};
+use std::alloc::Global;
 
 fn basis_of<const S: u32>(
     alloc: Global,
@@ -79,7 +80,7 @@ pub fn test_box<const S: u32>(
     alloc: Global,
     v: &Visited<S>,
     given: &Given<S>,
-) -> Result<Option<Certificate<S>>, AllocError>
+) -> Result<Option<Certificate<S>>, NoMemory>
     requires scale { IsScale S }
     requires testable { IsTestable (length v.now.unknowns - length v.now.forced) v.now }
     requires given { IsGiven v.now given.now }
@@ -91,7 +92,7 @@ pub fn test_box<const S: u32>(
     let params = count(&v.unknowns) - count(&v.forced);
     match tested(alloc, v, params, given) {
         Err(VisitFault::PastLimit) => Ok(None),
-        Err(VisitFault::NoMemory) => Err(AllocError),
+        Err(VisitFault::NoMemory) => Err(NoMemory),
         Ok(certificate) => Ok(certificate),
     }
 }

@@ -25,3 +25,4 @@ pub use certified::certify;
 pub use fault::CertFault;
 pub use given::test_box;
 pub use point::{Tried, try_point};
+pub use std::alloc::AllocError as NoMemory;

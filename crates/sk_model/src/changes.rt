@@ -18,6 +18,7 @@ ghost use Rattle.sk_model.specs.Typed.{group_handle};
 ghost use Rattle.sk_model.specs.Changes.{new_record, absent, value_changes, with_params, params_set, remap_set, with_remap, list_handle, grown, list_changes, with_lists, lists_set};
 ghost use Rattle.sk_model.specs.Settable.{IsRemapList, HasSources};
 
+use crate::NoMemory;
 use crate::keys::Key;
 use crate::remap::GroupList;
 use crate::writing::{list_text, push_param};
@@ -25,7 +26,7 @@ use indexmap::IndexSet;
 use sk_num::{Grid, Items, quantity_text};
 use sk_records::{Book, ChangeList, Kind, RecId};
 use sk_types::{Group, ParamValue, RemapEntry};
-use std::alloc::{AllocError, Global};
+use std::alloc::Global;
 
 // Whether two quantities are the same.
 fn is_same<const S: u32>(a: Grid<S>, b: Grid<S>) -> bool
@@ -40,7 +41,7 @@ fn push_change<const S: u32>(
     changes: &mut ChangeList,
     place: usize,
     value: Grid<S>,
-) -> Result<(), AllocError>
+) -> Result<(), NoMemory>
     requires scale { IsScale S }
     requires kind { changes.old.kind ≡ Kind.Param }
     ensures { OnOk result (changes.new ≡ record { kind = Kind.Param; list = changes.old.list ++ SetValue place (key_bytes Key.ParamValue) (quantity_text S value.entry) ∷ [] }) }
@@ -67,7 +68,7 @@ fn push_set<const S: u32>(
     params: &[ParamValue<S>],
     handles: &IndexSet<u32>,
     param: ParamValue<S>,
-) -> Result<(), AllocError>
+) -> Result<(), NoMemory>
     requires scale { IsScale S }
     requires handles { handles.now.keys ≡ map value_handle params.now }
     requires kind { set.old.changes.kind ≡ Kind.Param }
@@ -93,7 +94,7 @@ fn param_changes<const S: u32>(
     params: &[ParamValue<S>],
     handles: &IndexSet<u32>,
     values: &[ParamValue<S>],
-) -> Result<ParamChanges<S>, AllocError>
+) -> Result<ParamChanges<S>, NoMemory>
     requires scale { IsScale S }
     requires handles { handles.now.keys ≡ map value_handle params.now }
     ensures changes { IfOk result (λ set. set.changes ≡ record { kind = Kind.Param; list = value_changes params.now values.now }) }
@@ -117,7 +118,7 @@ fn param_changes<const S: u32>(
 fn add_handles<const S: u32>(
     handles: &mut IndexSet<u32>,
     added: &[ParamValue<S>],
-) -> Result<(), AllocError>
+) -> Result<(), NoMemory>
     requires new { All (λ (p : ParamValue S). seen_in p.id.0 handles.old.keys ≡ false) added.now }
     requires distinct { IsDistinct nat_eq (map value_handle added.now) }
     ensures ok { OnOk result (handles.new.keys ≡ handles.old.keys ++ map value_handle added.now) }
@@ -129,7 +130,7 @@ fn add_handles<const S: u32>(
             Ok(_) => {}
             Err(_) => {
                 handles.truncate(before);
-                return Err(AllocError);
+                return Err(NoMemory);
             }
         }
     }
@@ -160,7 +161,7 @@ pub(crate) fn put_params<const S: u32>(
     params: &mut Vec<ParamValue<S>>,
     handles: &mut IndexSet<u32>,
     values: &[ParamValue<S>],
-) -> Result<(), AllocError>
+) -> Result<(), NoMemory>
     requires scale { IsScale S }
     requires handles { handles.old.keys ≡ map value_handle params.old.items }
     requires count { length (records Kind.Param book.old) ≡ length params.old.items }
@@ -197,7 +198,7 @@ pub(crate) fn put_list<const S: u32>(
     place: usize,
     id: u32,
     list: &[RemapEntry],
-) -> Result<(), AllocError>
+) -> Result<(), NoMemory>
     requires place { position (nat_eq id) (map group_handle groups.old.items) ≡ Some place }
     requires exists { place < length (records Kind.Group book.old) }
     requires list { IsRemapList id list.now }
@@ -234,7 +235,7 @@ fn push_list<const S: u32>(
     groups: &[Group<S>],
     handles: &IndexSet<u32>,
     list: &GroupList,
-) -> Result<(), AllocError>
+) -> Result<(), NoMemory>
     requires handles { handles.now.keys ≡ map group_handle groups.now }
     requires exists { seen_in list.now.group.0 handles.now.keys ≡ true }
     requires kind { changes.old.kind ≡ Kind.Group }
@@ -255,7 +256,7 @@ fn changes_of_lists<const S: u32>(
     groups: &[Group<S>],
     handles: &IndexSet<u32>,
     lists: &[GroupList],
-) -> Result<ChangeList, AllocError>
+) -> Result<ChangeList, NoMemory>
     requires handles { handles.now.keys ≡ map group_handle groups.now }
     requires exist { All (λ (x : ListOfGroup). seen_in x.group.0 handles.now.keys ≡ true) lists.now }
     ensures changes { IfOk result (λ c. c ≡ record { kind = Kind.Group; list = list_changes groups.now lists.now }) }
@@ -288,7 +289,7 @@ pub(crate) fn put_lists<const S: u32>(
     groups: &mut Vec<Group<S>>,
     handles: &IndexSet<u32>,
     lists: Vec<GroupList>,
-) -> Result<(), AllocError>
+) -> Result<(), NoMemory>
     requires handles { handles.now.keys ≡ map group_handle groups.old.items }
     requires count { length (records Kind.Group book.old) ≡ length groups.old.items }
     requires exist { All (λ (x : ListOfGroup). seen_in x.group.0 handles.now.keys ≡ true) lists.items }

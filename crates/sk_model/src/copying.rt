@@ -2,14 +2,15 @@
 
 ghost use Rattle.std.specs.Prelude.{◌≡◌, IfOk};
 
+use crate::NoMemory;
 use sk_types::Group;
-use std::alloc::{AllocError, Global};
+use std::alloc::Global;
 
 /// Equal groups.
 pub(crate) fn copy_groups<const S: u32>(
     alloc: Global,
     groups: &[Group<S>],
-) -> Result<Vec<Group<S>>, AllocError>
+) -> Result<Vec<Group<S>>, NoMemory>
     ensures { IfOk result (λ v. v.items ≡ groups.now) }
 {
     let mut copies = Vec::new(alloc);

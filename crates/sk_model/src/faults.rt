@@ -3,7 +3,8 @@
 ghost use Rattle.std.specs.Prelude.{◌≡◌};
 ghost use Rattle.sk_model.specs.declared.faults.ModelFault.TheVariants.{NoMemory};
 
-use std::alloc::{AllocError, AllocFailed};
+use crate::NoMemory;
+use std::alloc::AllocFailed;
 
 /// Why a thing is left out.
 #[derive(Clone, Copy, Debug, PartialEq, Eq)]
@@ -68,10 +69,10 @@ pub enum ModelFault {
     NoMemory,
 }
 
-impl From<AllocError> for ModelFault {
+impl From<NoMemory> for ModelFault {
     ghost from_gives = { λ _ e. e ≡ NoMemory };
 
-    fn from(_error: AllocError) -> ModelFault {
+    fn from(_error: NoMemory) -> ModelFault {
         ModelFault::NoMemory
     }
 }

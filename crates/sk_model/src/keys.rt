@@ -4,8 +4,9 @@ ghost use Rattle.std.specs.Prelude.{◌≡◌, ℕ, List, map, IfOk};
 ghost use Rattle.std.specs.Borrow.{Bor};
 ghost use Rattle.sk_model.specs.Keys.{key_bytes, keys_of, key_spot};
 
+use crate::NoMemory;
 use sk_records::Kind;
-use std::alloc::{AllocError, Global};
+use std::alloc::Global;
 
 /// A key of a record that is read, named for what stands under it.
 #[derive(Clone, Copy)]
@@ -204,7 +205,7 @@ pub(crate) fn keys_of(kind: Kind) -> &'static [Key]
 }
 
 /// The keys of a kind of record as they stand in a text.
-pub(crate) fn key_table(alloc: Global, kind: Kind) -> Result<Vec<&'static [u8]>, AllocError>
+pub(crate) fn key_table(alloc: Global, kind: Kind) -> Result<Vec<&'static [u8]>, NoMemory>
     ensures { IfOk result (λ v. map (λ (k : Bor (List ℕ)). k.now) v.items ≡ map key_bytes (keys_of kind)) }
 {
     let mut table = Vec::new(alloc);

@@ -18,5 +18,6 @@ mod whole;
 mod writing;
 
 pub use faults::{ModelFault, Reason, What};
-pub use model::{Model, NoMemory};
+pub use model::Model;
 pub use remap::GroupList;
+pub use std::alloc::AllocError as NoMemory;

@@ -13,6 +13,7 @@ ghost use Rattle.sk_model.specs.Settable.{IsRemapList, IsGroupList};
 ghost use Rattle.sk_model.specs.Checked.{AreChecked};
 ghost use Rattle.sk_model.specs.Models.{lists_of, IsTyped};
 
+use crate::NoMemory;
 use crate::changes::{put_list, put_lists, put_params};
 use crate::copying::copy_groups;
 use crate::faults::ModelFault;
@@ -23,10 +24,7 @@ use indexmap::IndexSet;
 use sk_num::Grid;
 use sk_records::Book;
 use sk_types::{Constraint, Group, GroupId, ParamId, ParamValue, RemapEntry, Request};
-use std::alloc::{AllocError, Global};
-
-/// Want of memory.
-pub type NoMemory = AllocError;
+use std::alloc::Global;
 
 /// The typed model of a book.
 ///

@@ -12,14 +12,15 @@ ghost use Rattle.sk_model.specs.Keys.{key_bytes};
 ghost use Rattle.sk_model.specs.Changes.{fed_line, entry_text, param_record};
 ghost use Rattle.sk_model.specs.WrittenLines.{IsEntryText, IsListText};
 
+use crate::NoMemory;
 use crate::keys::Key;
 use itoa::Buffer;
 use sk_num::{Grid, handle_text, quantity_text};
 use sk_types::RemapEntry;
-use std::alloc::{AllocError, Global};
+use std::alloc::Global;
 
 // Appends a value line.
-fn push_value(out: &mut Vec<u8>, key: Key, value: &[u8]) -> Result<(), AllocError>
+fn push_value(out: &mut Vec<u8>, key: Key, value: &[u8]) -> Result<(), NoMemory>
     ensures { OnOk result (out.new.items ≡ out.old.items ++ line_bytes (fed_line (value_body (key_bytes key) value.now))) }
 {
     out.extend_from_slice(key.bytes())?;
@@ -34,7 +35,7 @@ pub(crate) fn push_param<const S: u32>(
     out: &mut Vec<u8>,
     id: u32,
     value: Grid<S>,
-) -> Result<(), AllocError>
+) -> Result<(), NoMemory>
     requires { IsScale S }
     ensures lines { OnOk result (out.new.items ≡ out.old.items ++ bytes_of (with_tails (param_record S id value.entry ∷ []))) }
     ensures reads { OnOk result (quantity_of S (quantity_text S value.entry) ≡ Ok value.entry) }
@@ -47,7 +48,7 @@ pub(crate) fn push_param<const S: u32>(
 }
 
 // Appends a number in decimal.
-fn push_decimal(out: &mut Vec<u8>, n: u16) -> Result<(), AllocError>
+fn push_decimal(out: &mut Vec<u8>, n: u16) -> Result<(), NoMemory>
     ensures { OnOk result (out.new.items ≡ out.old.items ++ decimal n) }
 {
     out.extend_from_slice(Buffer::new().format(n).as_bytes())?;
@@ -55,7 +56,7 @@ fn push_decimal(out: &mut Vec<u8>, n: u16) -> Result<(), AllocError>
 }
 
 // Appends the line of an entry: its number, the entity that is copied, and which copy of it.
-fn push_entry(out: &mut Vec<u8>, number: u16, source: u32, copy: u16) -> Result<(), AllocError>
+fn push_entry(out: &mut Vec<u8>, number: u16, source: u32, copy: u16) -> Result<(), NoMemory>
     ensures line { OnOk result (out.new.items ≡ out.old.items ++ line_bytes (fed_line (entry_text (record { number = number; source = record { 0 = source }; copy = copy })))) }
     ensures form { OnOk result (IsEntryText (record { number = number; source = record { 0 = source }; copy = copy })) }
 {
@@ -70,7 +71,7 @@ fn push_entry(out: &mut Vec<u8>, number: u16, source: u32, copy: u16) -> Result<
 }
 
 /// A remap list, whole.
-pub(crate) fn list_text(alloc: Global, list: &[RemapEntry]) -> Result<Vec<u8>, AllocError>
+pub(crate) fn list_text(alloc: Global, list: &[RemapEntry]) -> Result<Vec<u8>, NoMemory>
     ensures { IfOk result (λ lines. IsListText list.now lines.items) }
 {
     let mut lines = Vec::from_slice(alloc, b"Group.remap={\n")?;

@@ -1,6 +1,7 @@
 ghost use Rattle.std.specs.Prelude.{◌≡◌, ◌<◌, length, slice_set, IfOk, OnOk, OnErr, ◌++◌, ◌∷◌, [], string_bytes};
 
-use std::alloc::{AllocError, Global};
+use crate::NoMemory;
+use std::alloc::Global;
 use std::marker::Model;
 
 /// A `Vec` that contracts see as the list of its elements.
@@ -54,7 +55,7 @@ impl<T: Drop> Items<T> {
     }
 
     /// Puts `x` behind the last element.
-    pub fn push(&mut self, x: T) -> Result<(), AllocError>
+    pub fn push(&mut self, x: T) -> Result<(), NoMemory>
         ensures pushed { OnOk result (self.new ≡ self.old ++ x ∷ []) }
         ensures kept { OnErr result (self.new ≡ self.old) }
     {
@@ -65,7 +66,7 @@ impl<T: Drop> Items<T> {
 
 impl<T: Copy> Items<T> {
     /// The same elements in memory of their own.
-    pub fn copy(&self, alloc: Global) -> Result<Items<T>, AllocError>
+    pub fn copy(&self, alloc: Global) -> Result<Items<T>, NoMemory>
         ensures { IfOk result (λ it. it ≡ self.now) }
     {
         let items = Vec::from_slice(alloc, self.items.as_slice())?;
@@ -103,7 +104,7 @@ impl Text {
     }
 
     /// The same bytes in memory of their own.
-    pub fn copy(&self, alloc: Global) -> Result<Text, AllocError>
+    pub fn copy(&self, alloc: Global) -> Result<Text, NoMemory>
         ensures { IfOk result (λ t. t ≡ self.now) }
     {
         let text = String::from_str(alloc, self.text.as_str())?;

@@ -37,4 +37,5 @@ pub use span::Span;
 pub use spelling::{
     QuantityText, handle_text, quantity_law, quantity_text, read_handle, read_quantity, read_whole,
 };
+pub use std::alloc::AllocError as NoMemory;
 pub use whole_laws::{division_laws, order_laws, product_laws, sum_laws};

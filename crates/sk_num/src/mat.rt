@@ -1,9 +1,10 @@
 ghost use Rattle.std.specs.Prelude.{◌≡◌, IfOk};
 
+use crate::NoMemory;
 use crate::grid::Grid;
 use crate::items::Items;
 use crate::span::Span;
-use std::alloc::{AllocError, Global};
+use std::alloc::Global;
 
 /// A matrix of grid numbers: `rows * cols` cells, row by row.
 #[derive(Debug, Drop)]
@@ -15,7 +16,7 @@ pub struct Mat<const S: u32> {
 
 impl<const S: u32> Mat<S> {
     /// An equal matrix in memory of its own.
-    pub fn copy(&self, alloc: Global) -> Result<Mat<S>, AllocError>
+    pub fn copy(&self, alloc: Global) -> Result<Mat<S>, NoMemory>
         ensures { IfOk result (λ m. m ≡ self.now) }
     {
         Ok(Mat {
@@ -36,7 +37,7 @@ pub struct SpanMat<const S: u32> {
 
 impl<const S: u32> SpanMat<S> {
     /// An equal matrix in memory of its own.
-    pub fn copy(&self, alloc: Global) -> Result<SpanMat<S>, AllocError>
+    pub fn copy(&self, alloc: Global) -> Result<SpanMat<S>, NoMemory>
         ensures { IfOk result (λ m. m ≡ self.now) }
     {
         Ok(SpanMat {

@@ -10,17 +10,17 @@ ghost use Rattle.sk_records.specs.declared.items.Item.TheVariants.{Lines};
 ghost use Rattle.sk_records.specs.Holding.Places.{holds, lists_of, list_of};
 ghost use Rattle.sk_records.specs.Holding.BookHeld.{book_blocks, IsHeld, IsBook};
 
+use crate::NoMemory;
 use crate::given::{push_given, push_record};
 use crate::items::{Item, Stretch};
 use crate::kinds::Kind;
 use crate::places::holds;
 use crate::rows::{LAST_PLACE, Span};
 use crate::spots::{Before, Ready, make_ready};
-use std::alloc::AllocError;
 use std::mem;
 
 /// A line with an end: where it has none, it is put behind the text with a line feed.
-pub(crate) fn push_ended(text: &mut Vec<u8>, line: Span) -> Result<Span, AllocError>
+pub(crate) fn push_ended(text: &mut Vec<u8>, line: Span) -> Result<Span, NoMemory>
     requires within { IsWithin text.old.items line }
     ensures line { IfOk result (λ s. line_at text.new.items s ≡ ended_line (line_at text.old.items line)) }
     ensures within { IfOk result (IsWithin text.new.items) }
@@ -35,7 +35,7 @@ pub(crate) fn push_ended(text: &mut Vec<u8>, line: Span) -> Result<Span, AllocEr
     text.push(b'\n')?;
     let end = text.len();
     if end > LAST_PLACE {
-        return Err(AllocError);
+        return Err(NoMemory);
     }
     Ok(Span {
         start: start as u32,
@@ -45,7 +45,7 @@ pub(crate) fn push_ended(text: &mut Vec<u8>, line: Span) -> Result<Span, AllocEr
 }
 
 /// An empty line, put behind the text.
-pub(crate) fn push_feed(text: &mut Vec<u8>) -> Result<Stretch, AllocError>
+pub(crate) fn push_feed(text: &mut Vec<u8>) -> Result<Stretch, NoMemory>
     ensures feed { IfOk result (λ s. item_blocks text.new.items (Lines s) ≡ Loose feed_line ∷ []) }
     ensures within { IfOk result (λ s. ItemWithin text.new.items (Lines s)) }
     ensures grown { IsGrown text.old.items text.new.items }
@@ -54,7 +54,7 @@ pub(crate) fn push_feed(text: &mut Vec<u8>) -> Result<Stretch, AllocError>
     text.push(b'\n')?;
     let end = text.len();
     if end > LAST_PLACE {
-        return Err(AllocError);
+        return Err(NoMemory);
     }
     Ok(Stretch {
         start: start as u32,
@@ -63,7 +63,7 @@ pub(crate) fn push_feed(text: &mut Vec<u8>) -> Result<Stretch, AllocError>
 }
 
 // Puts a place at the end of the list of a kind.
-fn push_place(places: &mut Vec<Vec<usize>>, kind: Kind, at: usize) -> Result<(), AllocError>
+fn push_place(places: &mut Vec<Vec<usize>>, kind: Kind, at: usize) -> Result<(), NoMemory>
     requires kinds { length places.old.items ≡ 6 }
     ensures ok { OnOk result (lists_of places.new.items ≡ slice_set (lists_of places.old.items) (kind_place kind) (list_of kind (lists_of places.old.items) ++ at ∷ [])) }
     ensures err { OnErr result (lists_of places.new.items ≡ lists_of places.old.items) }
@@ -105,7 +105,7 @@ pub(crate) fn put_record(
     ready: Ready,
     new: Item,
     tail: Stretch,
-) -> Result<(), AllocError>
+) -> Result<(), NoMemory>
     requires first { IsWithin text.old.items header.old }
     requires held { IsHeld text.old.items items.old.items places.old.items }
     requires ready { IsReady text.old.items kind items.old.items ready.at ready.before }
@@ -142,7 +142,7 @@ pub(crate) fn add_given(
     places: &mut Vec<Vec<usize>>,
     kind: Kind,
     lines: &[u8],
-) -> Result<(), AllocError>
+) -> Result<(), NoMemory>
     requires first { IsWithin text.old.items header.old }
     requires held { IsHeld text.old.items items.old.items places.old.items }
     requires given { IsOneRecord kind lines.now }
@@ -163,7 +163,7 @@ fn add_item(
     places: &mut Vec<Vec<usize>>,
     kind: Kind,
     item: Item,
-) -> Result<(), AllocError>
+) -> Result<(), NoMemory>
     requires first { IsWithin text.old.items header.old }
     requires held { IsHeld text.old.items items.old.items places.old.items }
     requires within { ItemWithin text.old.items item }
@@ -187,7 +187,7 @@ pub(crate) fn add_all(
     places: &mut Vec<Vec<usize>>,
     kind: Kind,
     lines: &[u8],
-) -> Result<(), AllocError>
+) -> Result<(), NoMemory>
     requires first { IsWithin text.old.items header.old }
     requires held { IsHeld text.old.items items.old.items places.old.items }
     requires given { AreRecords kind lines.now }

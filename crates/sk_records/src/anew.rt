@@ -9,6 +9,7 @@ ghost use Rattle.sk_records.specs.Holding.BookHeld.{IsHeld};
 ghost use Rattle.sk_records.specs.Holding.Ready.{IsKept};
 ghost use Rattle.sk_records.specs.Holding.Anew.{is_after, cut_after, left_item, left_items, list_anew, lists_anew, IsSetAnew, IsAnew};
 
+use crate::NoMemory;
 use crate::given::push_given;
 use crate::inserting::put_items;
 use crate::items::Item;
@@ -17,7 +18,7 @@ use crate::making::change_all;
 use crate::places::{count, holds, place_of, push_places};
 use crate::removing::without_blank;
 use crate::rows::Span;
-use std::alloc::{AllocError, Global};
+use std::alloc::Global;
 
 // Whether a record of the kind went just before what follows an item.
 fn is_after(item: &Item, kind: Kind, after: bool) -> bool
@@ -84,7 +85,7 @@ fn list_anew(
     new: &[Item],
     kind: Kind,
     own: Kind,
-) -> Result<Vec<usize>, AllocError>
+) -> Result<Vec<usize>, NoMemory>
     requires place { at ≤ length items.now }
     ensures { IfOk result (λ list. list.items ≡ list_anew kind at items.now new.now own) }
 {
@@ -104,7 +105,7 @@ fn lists_anew(
     at: usize,
     new: &[Item],
     kind: Kind,
-) -> Result<Vec<Vec<usize>>, AllocError>
+) -> Result<Vec<Vec<usize>>, NoMemory>
     requires place { at ≤ length items.now }
     ensures { IfOk result (λ lists. lists_of lists.items ≡ lists_anew kind at items.now new.now) }
 {
@@ -125,7 +126,7 @@ fn set_standing(
     places: &mut Vec<Vec<usize>>,
     kind: Kind,
     lines: &[u8],
-) -> Result<(), AllocError>
+) -> Result<(), NoMemory>
     requires held { IsHeld text.old.items items.old.items places.old.items }
     requires stands { 0 < length (places_from kind 0 items.old.items) }
     requires given { AreRecords kind lines.now }
@@ -152,7 +153,7 @@ pub(crate) fn set_anew(
     places: &mut Vec<Vec<usize>>,
     kind: Kind,
     lines: &[u8],
-) -> Result<(), AllocError>
+) -> Result<(), NoMemory>
     requires first { IsWithin text.old.items header.old }
     requires held { IsHeld text.old.items items.old.items places.old.items }
     requires given { AreRecords kind lines.now }

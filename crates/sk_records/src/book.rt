@@ -30,9 +30,9 @@ use crate::reading::read_lines;
 use crate::removing::remove_at;
 use crate::rows::{LAST_PLACE, Row, Span};
 use crate::writing::write_items;
-use crate::{lookup, places};
+use crate::{NoMemory, lookup, places};
 use sk_text::lines;
-use std::alloc::{AllocError, Global};
+use std::alloc::Global;
 use std::marker::Model;
 
 // The most bytes that a text may have.
@@ -85,17 +85,17 @@ impl Book {
     }
 
     /// Reads a text that has no fault but, maybe, its size: such as what a book writes.
-    pub fn again(alloc: Global, text: Vec<u8>) -> Result<Book, AllocError>
+    pub fn again(alloc: Global, text: Vec<u8>) -> Result<Book, NoMemory>
         requires { IsOk (read_lines (lines_in text.items)) }
         ensures { IfOk result (λ book. read_lines (lines_in text.items) ≡ Ok book) }
     {
         if text.len() >= LAST_PLACE {
-            return Err(AllocError);
+            return Err(NoMemory);
         }
         let Parts { header, items } = match parts_of(alloc, &text) {
             Ok(parts) => parts,
             // The text has no fault, so this is want of memory.
-            Err(_) => return Err(AllocError),
+            Err(_) => return Err(NoMemory),
         };
         let places = places::all_places(alloc, &items)?;
         Ok(Book {
@@ -168,7 +168,7 @@ impl Book {
     /// before its closing line. At an `Err` the book is as it was.
     ///
     /// The key is whole, as `Constraint.valA`.
-    pub fn set_value(&mut self, rec: RecId, key: &[u8], value: &[u8]) -> Result<(), AllocError>
+    pub fn set_value(&mut self, rec: RecId, key: &[u8], value: &[u8]) -> Result<(), NoMemory>
         requires exists { rec.place < length (records rec.kind self.old) }
         requires key { IsKey rec.kind key.now }
         requires value { IsValue value.now }
@@ -183,7 +183,7 @@ impl Book {
     /// the record has none, it stands before the closing line. At an `Err` the book is as it was.
     ///
     /// The lines are one whole list, from `Group.remap={` to `}`, each ended.
-    pub fn set_map(&mut self, rec: RecId, lines: &[u8]) -> Result<(), AllocError>
+    pub fn set_map(&mut self, rec: RecId, lines: &[u8]) -> Result<(), NoMemory>
         requires exists { rec.place < length (records rec.kind self.old) }
         requires group { rec.kind ≡ Group }
         requires list { is_whole_list (lines_in lines.now) ≡ true }
@@ -199,7 +199,7 @@ impl Book {
     /// line, with an empty line behind it. At an `Err` the book is as it was.
     ///
     /// The lines are one whole record of the kind, without a tail, each ended.
-    pub fn add_record(&mut self, kind: Kind, lines: &[u8]) -> Result<RecId, AllocError>
+    pub fn add_record(&mut self, kind: Kind, lines: &[u8]) -> Result<RecId, NoMemory>
         requires given { IsOneRecord kind lines.now }
         ensures ok { OnOk result (self.new ≡ add_records kind (given_records lines.now) self.old) }
         ensures id { IfOk result (λ rec. rec ≡ record { kind = kind; place = length (records kind self.old) }) }
@@ -223,7 +223,7 @@ impl Book {
     /// `Err` the book is as it was.
     ///
     /// The lines are whole records of the kind, each with an empty line (a line feed) behind it, each ended; there may be none.
-    pub fn change(&mut self, changes: &ChangeList, added: &[u8]) -> Result<(), AllocError>
+    pub fn change(&mut self, changes: &ChangeList, added: &[u8]) -> Result<(), NoMemory>
         requires exist { All (λ (c : Change). change_place c < length (records changes.now.kind self.old)) changes.now.list }
         requires given { AreRecords changes.now.kind added.now }
         ensures ok { OnOk result (self.new ≡ add_records changes.now.kind (given_records added.now) (all_changed changes.now.kind changes.now.list self.old)) }
@@ -256,7 +256,7 @@ impl Book {
     ///
     /// The lines are whole entity records, each with an empty line (a line feed) behind it, each ended. Where no lines are
     /// given, the book has no entity record then.
-    pub fn set_entities(&mut self, lines: &[u8]) -> Result<(), AllocError>
+    pub fn set_entities(&mut self, lines: &[u8]) -> Result<(), NoMemory>
         requires given { AreRecords Entity lines.now }
         ensures ok { OnOk result (self.new ≡ made_anew Entity (given_records lines.now) self.old) }
         ensures err { OnErr result (self.new ≡ self.old) }
@@ -279,7 +279,7 @@ impl Book {
     }
 
     /// An equal book, which holds nothing of what changes left behind.
-    pub fn copy(&self, alloc: Global) -> Result<Book, AllocError>
+    pub fn copy(&self, alloc: Global) -> Result<Book, NoMemory>
         ensures { IfOk result (λ book. book ≡ self.now) }
     {
         let mut text = Vec::new(alloc);
@@ -295,7 +295,7 @@ impl Book {
     }
 
     /// Appends the text. A line that no call changed is written as it was read. At an `Err` nothing is appended.
-    pub fn write(&self, _alloc: Global, out: &mut Vec<u8>) -> Result<(), AllocError>
+    pub fn write(&self, _alloc: Global, out: &mut Vec<u8>) -> Result<(), NoMemory>
         ensures ok { OnOk result (out.new.items ≡ out.old.items ++ bytes_of self.now) }
         ensures err { OnErr result (out.new.items ≡ out.old.items) }
     {

@@ -5,8 +5,9 @@ ghost use Rattle.sk_records.specs.ChangeLists.{KindChanges, SetValue, SetMap};
 ghost use Rattle.sk_records.specs.Given.{IsKey, IsValue, AllEnded, is_whole_list, given_list};
 ghost use Rattle.sk_records.specs.declared.kinds.Kind.TheVariants.{Group};
 
+use crate::NoMemory;
 use crate::kinds::Kind;
-use std::alloc::{AllocError, Global};
+use std::alloc::Global;
 use std::marker::Model;
 
 /// A value that is set in the record with a place: where its key stands in the list's bytes, and behind it the value.
@@ -70,7 +71,7 @@ impl ChangeList {
 
     /// Behind the others, a value is set in the record with this place in its kind, as by `Book::set_value`. At an `Err` the
     /// list is as it was.
-    pub fn set_value(&mut self, place: usize, key: &[u8], value: &[u8]) -> Result<(), AllocError>
+    pub fn set_value(&mut self, place: usize, key: &[u8], value: &[u8]) -> Result<(), NoMemory>
         requires key { IsKey self.old.kind key.now }
         requires value { IsValue value.now }
         ensures ok { OnOk result (self.new ≡ record { kind = self.old.kind; list = self.old.list ++ SetValue place key.now value.now ∷ [] }) }
@@ -92,7 +93,7 @@ impl ChangeList {
 
     /// Behind the others, a remap list is set in the group with this place, as by `Book::set_map`. At an `Err` the list is as it
     /// was.
-    pub fn set_map(&mut self, place: usize, lines: &[u8]) -> Result<(), AllocError>
+    pub fn set_map(&mut self, place: usize, lines: &[u8]) -> Result<(), NoMemory>
         requires group { self.old.kind ≡ Group }
         requires list { is_whole_list (lines_in lines.now) ≡ true }
         requires ended { AllEnded (lines_in lines.now) }

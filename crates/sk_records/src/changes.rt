@@ -11,12 +11,12 @@ ghost use Rattle.sk_records.specs.Holding.Grown.{IsGrown};
 ghost use Rattle.sk_records.specs.Rows.{Row};
 ghost use Rattle.sk_records.specs.Holding.Changes.{ItemChange};
 
+use crate::NoMemory;
 use crate::growing::{push_added, push_changed};
 use crate::items::Item;
 use crate::lists::{push_list, with_list};
 use crate::lookup::last_place;
 use crate::rows::{Role, Row};
-use std::alloc::AllocError;
 
 // Sets a value among the lines of a record.
 fn set_row_value(
@@ -24,7 +24,7 @@ fn set_row_value(
     rows: &mut Vec<Row>,
     key: &[u8],
     value: &[u8],
-) -> Result<(), AllocError>
+) -> Result<(), NoMemory>
     requires within { All (RowWithin text.old.items) rows.old.items }
     ensures ok { OnOk result (rows_at text.new.items rows.new.items ≡ with_value key.now value.now (rows_at text.old.items rows.old.items)) }
     ensures err { OnErr result (rows.new.items ≡ rows.old.items) }
@@ -51,7 +51,7 @@ pub(crate) fn set_item_value(
     item: &mut Item,
     key: &[u8],
     value: &[u8],
-) -> Result<(), AllocError>
+) -> Result<(), NoMemory>
     requires within { ItemWithin text.old.items item.old }
     ensures ok { OnOk result (item_blocks text.new.items item.new ≡ map (with_rows (with_value key.now value.now)) (item_blocks text.old.items item.old)) }
     ensures err { OnErr result (item_blocks text.new.items item.new ≡ item_blocks text.old.items item.old) }
@@ -72,7 +72,7 @@ pub(crate) fn set_value_at(
     at: usize,
     key: &[u8],
     value: &[u8],
-) -> Result<(), AllocError>
+) -> Result<(), NoMemory>
     requires place { at < length items.old.items }
     requires within { All (ItemWithin text.old.items) items.old.items }
     ensures ok { OnOk result (ItemChange text.old.items text.new.items items.old.items items.new.items at (with_value key.now value.now)) }
@@ -86,7 +86,7 @@ pub(crate) fn set_item_list(
     text: &mut Vec<u8>,
     item: &mut Item,
     given: &[u8],
-) -> Result<(), AllocError>
+) -> Result<(), NoMemory>
     requires within { ItemWithin text.old.items item.old }
     ensures ok { OnOk result (item_blocks text.new.items item.new ≡ map (with_rows (with_map (given_list given.now))) (item_blocks text.old.items item.old)) }
     ensures err { OnErr result (item_blocks text.new.items item.new ≡ item_blocks text.old.items item.old) }
@@ -101,7 +101,7 @@ pub(crate) fn set_item_list(
 }
 
 // Sets the remap list among the lines of a record.
-fn set_row_list(text: &mut Vec<u8>, rows: &mut Vec<Row>, given: &[u8]) -> Result<(), AllocError>
+fn set_row_list(text: &mut Vec<u8>, rows: &mut Vec<Row>, given: &[u8]) -> Result<(), NoMemory>
     requires within { All (RowWithin text.old.items) rows.old.items }
     ensures ok { OnOk result (rows_at text.new.items rows.new.items ≡ with_map (given_list given.now) (rows_at text.old.items rows.old.items)) }
     ensures err { OnErr result (rows.new.items ≡ rows.old.items) }
@@ -120,7 +120,7 @@ pub(crate) fn set_list_at(
     items: &mut Vec<Item>,
     at: usize,
     given: &[u8],
-) -> Result<(), AllocError>
+) -> Result<(), NoMemory>
     requires place { at < length items.old.items }
     requires within { All (ItemWithin text.old.items) items.old.items }
     ensures ok { OnOk result (ItemChange text.old.items text.new.items items.old.items items.new.items at (with_map (given_list given.now))) }

@@ -2,7 +2,8 @@
 ghost use Rattle.std.specs.Prelude.{◌≡◌};
 ghost use Rattle.sk_records.specs.declared.faults.ReadFault.TheVariants.{NoMemory};
 
-use std::alloc::{AllocError, AllocFailed};
+use crate::NoMemory;
+use std::alloc::AllocFailed;
 
 /// Why a text isn't read: the first fault. Lines count from 1.
 #[derive(Clone, Copy, Debug, PartialEq, Eq)]
@@ -21,10 +22,10 @@ pub enum ReadFault {
     NoMemory,
 }
 
-impl From<AllocError> for ReadFault {
+impl From<NoMemory> for ReadFault {
     ghost from_gives = { λ _ e. e ≡ NoMemory };
 
-    fn from(_fault: AllocError) -> ReadFault {
+    fn from(_fault: NoMemory) -> ReadFault {
         ReadFault::NoMemory
     }
 }

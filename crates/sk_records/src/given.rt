@@ -6,12 +6,12 @@ ghost use Rattle.sk_records.specs.Holding.Grown.{IsGrown};
 ghost use Rattle.sk_records.specs.Holding.GivenHeld.{bare_held, IsBareOf, AreBareOf, IsGivenAs, IsRecordOf};
 ghost use Rattle.sk_records.specs.Given.{IsOneRecord};
 
+use crate::NoMemory;
 use crate::items::Item;
 use crate::kinds::Kind;
 use crate::reading::read_lines;
 use crate::rows::{LAST_PLACE, Row};
 use sk_text::lines;
-use std::alloc::AllocError;
 
 fn forget_rows(rows: &mut Vec<Row>)
     ensures { rows.new.items ≡ map bare_held rows.old.items }
@@ -39,7 +39,7 @@ fn forget_items(items: &mut Vec<Item>)
 }
 
 /// Puts the lines of whole records behind the text, and gives them as items whose lines have no numbers.
-pub(crate) fn push_given(text: &mut Vec<u8>, given: &[u8]) -> Result<Vec<Item>, AllocError>
+pub(crate) fn push_given(text: &mut Vec<u8>, given: &[u8]) -> Result<Vec<Item>, NoMemory>
     ensures items { IfOk result (λ items. IsGivenAs text.new.items given.now items.items) }
     ensures within { IfOk result (λ items. All (ItemWithin text.new.items) items.items) }
     ensures grown { IsGrown text.old.items text.new.items }
@@ -47,7 +47,7 @@ pub(crate) fn push_given(text: &mut Vec<u8>, given: &[u8]) -> Result<Vec<Item>, 
     let base = text.len();
     text.extend_from_slice(given)?;
     if text.len() >= LAST_PLACE {
-        return Err(AllocError);
+        return Err(NoMemory);
     }
     match read_lines(*text.allocator(), text, base, lines(given), 1) {
         Ok(items) => {
@@ -56,12 +56,12 @@ pub(crate) fn push_given(text: &mut Vec<u8>, given: &[u8]) -> Result<Vec<Item>, 
             Ok(items)
         }
         // Given lines have no fault, so this is want of memory.
-        Err(_) => Err(AllocError),
+        Err(_) => Err(NoMemory),
     }
 }
 
 /// Puts the lines of one whole record behind the text, and gives it as an item.
-pub(crate) fn push_record(text: &mut Vec<u8>, kind: Kind, given: &[u8]) -> Result<Item, AllocError>
+pub(crate) fn push_record(text: &mut Vec<u8>, kind: Kind, given: &[u8]) -> Result<Item, NoMemory>
     requires { IsOneRecord kind given.now }
     ensures item { IfOk result (IsRecordOf text.new.items kind given.now) }
     ensures grown { IsGrown text.old.items text.new.items }
@@ -70,6 +70,6 @@ pub(crate) fn push_record(text: &mut Vec<u8>, kind: Kind, given: &[u8]) -> Resul
     match items.pop() {
         Some(Item::Held(record)) => Ok(Item::Held(record)),
         // The lines of one record are read as that record alone.
-        _ => Err(AllocError),
+        _ => Err(NoMemory),
     }
 }

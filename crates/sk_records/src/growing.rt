@@ -4,11 +4,11 @@ ghost use Rattle.sk_records.specs.Rows.{value_body};
 ghost use Rattle.sk_records.specs.Holding.Held.{bytes_at, line_at, IsWithin, RowWithin};
 ghost use Rattle.sk_records.specs.Holding.Grown.{IsGrown};
 
+use crate::NoMemory;
 use crate::rows::{LAST_PLACE, Row, Span};
-use std::alloc::AllocError;
 
 // Puts `key=value` behind the text.
-fn push_body(text: &mut Vec<u8>, key: &[u8], value: &[u8]) -> Result<(), AllocError>
+fn push_body(text: &mut Vec<u8>, key: &[u8], value: &[u8]) -> Result<(), NoMemory>
     ensures ok { OnOk result (text.new.items ≡ text.old.items ++ value_body key.now value.now) }
     ensures grown { IsGrown text.old.items text.new.items }
 {
@@ -23,7 +23,7 @@ pub(crate) fn push_changed(
     key: &[u8],
     value: &[u8],
     old: Row,
-) -> Result<Span, AllocError>
+) -> Result<Span, NoMemory>
     requires within { RowWithin text.old.items old }
     ensures line { IfOk result (λ s. line_at text.new.items s ≡ record { body = value_body key.now value.now; ending = bytes_at text.old.items old.body_end (old.body_end + old.end_len) }) }
     ensures within { IfOk result (IsWithin text.new.items) }
@@ -35,7 +35,7 @@ pub(crate) fn push_changed(
     text.extend_from_within(old.body_end as usize..old.end())?;
     let end = text.len();
     if end > LAST_PLACE {
-        return Err(AllocError);
+        return Err(NoMemory);
     }
     Ok(Span {
         start: start as u32,
@@ -45,7 +45,7 @@ pub(crate) fn push_changed(
 }
 
 /// Puts the line `key=value` behind the text, ended by a line feed.
-pub(crate) fn push_added(text: &mut Vec<u8>, key: &[u8], value: &[u8]) -> Result<Span, AllocError>
+pub(crate) fn push_added(text: &mut Vec<u8>, key: &[u8], value: &[u8]) -> Result<Span, NoMemory>
     ensures line { IfOk result (λ s. line_at text.new.items s ≡ record { body = value_body key.now value.now; ending = 10 ∷ [] }) }
     ensures within { IfOk result (IsWithin text.new.items) }
     ensures grown { IsGrown text.old.items text.new.items }
@@ -56,7 +56,7 @@ pub(crate) fn push_added(text: &mut Vec<u8>, key: &[u8], value: &[u8]) -> Result
     text.push(b'\n')?;
     let end = text.len();
     if end > LAST_PLACE {
-        return Err(AllocError);
+        return Err(NoMemory);
     }
     Ok(Span {
         start: start as u32,

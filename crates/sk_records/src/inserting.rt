@@ -6,9 +6,10 @@ ghost use Rattle.sk_records.specs.Holding.Places.{all_places, lists_of};
 ghost use Rattle.sk_records.specs.Holding.Inserted.{shifted, nearest, HasRoom, StandsAlike};
 ghost use Rattle.sk_records.specs.Holding.Removed.{is_gone};
 
+use crate::NoMemory;
 use crate::items::Item;
 use crate::kinds::Kind;
-use std::alloc::{AllocError, Global};
+use std::alloc::Global;
 
 fn shift_list(list: &mut Vec<usize>, at: usize, count: usize)
     requires { All (λ p. p + count < 2 ^ 64) list.old.items }
@@ -31,7 +32,7 @@ fn shift_lists(places: &mut Vec<Vec<usize>>, at: usize, count: usize)
 }
 
 /// Puts items at a place; the lists of places stay. At an `Err` all is as it was.
-pub(crate) fn put_items(items: &mut Vec<Item>, at: usize, new: Vec<Item>) -> Result<(), AllocError>
+pub(crate) fn put_items(items: &mut Vec<Item>, at: usize, new: Vec<Item>) -> Result<(), NoMemory>
     requires { at ≤ length items.old.items }
     ensures ok { OnOk result (items.new.items ≡ take at items.old.items ++ (new.items ++ drop at items.old.items)) }
     ensures err { OnErr result (items.new.items ≡ items.old.items) }
@@ -49,7 +50,7 @@ pub(crate) fn insert_at(
     places: &mut Vec<Vec<usize>>,
     at: usize,
     new: Vec<Item>,
-) -> Result<(), AllocError>
+) -> Result<(), NoMemory>
     requires place { at ≤ length items.old.items }
     requires index { lists_of places.old.items ≡ all_places items.old.items }
     ensures items { OnOk result (items.new.items ≡ take at items.old.items ++ (new.items ++ drop at items.old.items)) }
@@ -84,7 +85,7 @@ pub(crate) fn nearest(places: &[Vec<usize>], items: &[Item], kind: Kind) -> Opti
 }
 
 // Nothing, as often as asked.
-fn gones(alloc: Global, count: usize) -> Result<Vec<Item>, AllocError>
+fn gones(alloc: Global, count: usize) -> Result<Vec<Item>, NoMemory>
     ensures gone { IfOk result (λ v. All (λ x. is_gone x ≡ true) v.items) }
     ensures len { IfOk result (λ v. length v.items ≡ count) }
 {
@@ -113,7 +114,7 @@ pub(crate) fn make_room(
     items: &mut Vec<Item>,
     places: &mut Vec<Vec<usize>>,
     at: usize,
-) -> Result<(), AllocError>
+) -> Result<(), NoMemory>
     requires place { at ≤ length items.old.items }
     requires index { lists_of places.old.items ≡ all_places items.old.items }
     ensures room { OnOk result (HasRoom items.new.items at) }

@@ -5,9 +5,9 @@ ghost use Rattle.sk_text.specs.Lines.{TextLine, lines_in, line_bytes};
 ghost use Rattle.sk_records.specs.Blocks.{Block, Loose};
 ghost use Rattle.sk_records.specs.Holding.Held.{bytes_at, line_at, blocks_at, IsWithin, ItemWithin, IsJoined};
 
+use crate::NoMemory;
 use crate::kinds::Kind;
 use crate::rows::{Row, Span};
-use std::alloc::AllocError;
 
 /// A stretch of the held text: whole lines that stand between records.
 #[derive(Clone, Copy)]
@@ -56,7 +56,7 @@ fn joined_start(text: &[u8], items: &[Item], at: u32) -> Option<u32>
 }
 
 /// Puts a line that stands between records behind the items.
-pub(crate) fn push_line(text: &[u8], items: &mut Vec<Item>, span: Span) -> Result<(), AllocError>
+pub(crate) fn push_line(text: &[u8], items: &mut Vec<Item>, span: Span) -> Result<(), NoMemory>
     requires within { IsWithin text.now span }
     requires line { lines_in (line_bytes (line_at text.now span)) ≡ line_at text.now span ∷ [] }
     requires all { All (ItemWithin text.now) items.old.items }

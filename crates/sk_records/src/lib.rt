@@ -32,3 +32,4 @@ pub use faults::ReadFault;
 pub use kinds::{Kind, RecId};
 pub use map_lines::{MapLine, MapLines};
 pub use rows::Role;
+pub use std::alloc::AllocError as NoMemory;

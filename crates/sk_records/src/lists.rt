@@ -6,10 +6,11 @@ ghost use Rattle.sk_records.specs.Given.{given_list, list_role};
 ghost use Rattle.sk_records.specs.Holding.Held.{rows_at, RowWithin};
 ghost use Rattle.sk_records.specs.Holding.Grown.{IsGrown};
 
+use crate::NoMemory;
 use crate::classes::{is_opening, is_shut};
 use crate::rows::{LAST_PLACE, Role, Row, Span};
 use sk_text::lines;
-use std::alloc::{AllocError, Global};
+use std::alloc::Global;
 
 // What a line of a whole list is.
 fn list_role(body: &[u8]) -> Role
@@ -23,7 +24,7 @@ fn list_role(body: &[u8]) -> Role
 }
 
 /// Puts the lines of a whole list behind the text, and gives them as lines of a record.
-pub(crate) fn push_list(text: &mut Vec<u8>, given: &[u8]) -> Result<Vec<Row>, AllocError>
+pub(crate) fn push_list(text: &mut Vec<u8>, given: &[u8]) -> Result<Vec<Row>, NoMemory>
     ensures rows { IfOk result (λ rows. rows_at text.new.items rows.items ≡ given_list given.now) }
     ensures within { IfOk result (λ rows. All (RowWithin text.new.items) rows.items) }
     ensures grown { IsGrown text.old.items text.new.items }
@@ -31,7 +32,7 @@ pub(crate) fn push_list(text: &mut Vec<u8>, given: &[u8]) -> Result<Vec<Row>, Al
     let base = text.len();
     text.extend_from_slice(given)?;
     if text.len() > LAST_PLACE {
-        return Err(AllocError);
+        return Err(NoMemory);
     }
     let mut rows = Vec::new(*text.allocator());
     for line in lines(given) {
@@ -59,7 +60,7 @@ fn is_plain(row: Row) -> bool
 }
 
 /// The lines of a record with a new list in the place of the first, and no further one.
-pub(crate) fn with_list(alloc: Global, rows: &[Row], new: &[Row]) -> Result<Vec<Row>, AllocError>
+pub(crate) fn with_list(alloc: Global, rows: &[Row], new: &[Row]) -> Result<Vec<Row>, NoMemory>
     ensures { IfOk result (λ v. v.items ≡ with_list new.now rows.now) }
 {
     let mut out = Vec::new(alloc);

@@ -10,6 +10,7 @@ ghost use Rattle.sk_records.specs.Holding.Held.{blocks_at, IsWithin};
 ghost use Rattle.sk_records.specs.Holding.BookHeld.{IsHeld};
 ghost use Rattle.sk_records.specs.Holding.Ready.{IsKept};
 
+use crate::NoMemory;
 use crate::adding::add_all;
 use crate::change_list::Edit;
 use crate::changes::{set_list_at, set_value_at};
@@ -18,7 +19,6 @@ use crate::kinds::{Kind, RecId};
 use crate::packing::{pack_items, pack_span};
 use crate::places::{all_places, place_of};
 use crate::rows::Span;
-use std::alloc::AllocError;
 
 fn place_in(edit: Edit) -> usize
     ensures { result ≡ edit_place edit }
@@ -37,7 +37,7 @@ fn make_change(
     kind: Kind,
     bytes: &[u8],
     edit: Edit,
-) -> Result<(), AllocError>
+) -> Result<(), NoMemory>
     requires held { IsHeld text.old.items items.old.items places.now }
     requires fits { EditFits kind bytes.now edit }
     requires exists { Exists kind (blocks_at text.old.items items.old.items) (change_of bytes.now edit) }
@@ -65,7 +65,7 @@ fn make_changes(
     kind: Kind,
     bytes: &[u8],
     edits: &[Edit],
-) -> Result<(), AllocError>
+) -> Result<(), NoMemory>
     requires held { IsHeld text.old.items items.old.items places.now }
     requires fit { All (EditFits kind bytes.now) edits.now }
     requires exist { All (Exists kind (blocks_at text.old.items items.old.items)) (map (change_of bytes.now) edits.now) }
@@ -91,7 +91,7 @@ pub(crate) fn change_all(
     bytes: &[u8],
     edits: &[Edit],
     added: &[u8],
-) -> Result<(), AllocError>
+) -> Result<(), NoMemory>
     requires first { IsWithin text.old.items header.old }
     requires held { IsHeld text.old.items items.old.items places.old.items }
     requires fit { All (EditFits kind bytes.now) edits.now }

@@ -6,13 +6,14 @@ ghost use Rattle.sk_records.specs.declared.items.Item.TheVariants.{Lines, Held};
 ghost use Rattle.sk_records.specs.Holding.Grown.{IsGrown};
 ghost use Rattle.sk_records.specs.Holding.Held.{line_at, row_at, rows_at, IsWithin, RowWithin, ItemWithin};
 
+use crate::NoMemory;
 use crate::items::{Item, Record, Stretch};
 use crate::removing::is_gone;
 use crate::rows::{LAST_PLACE, Row, Span};
-use std::alloc::{AllocError, Global};
+use std::alloc::Global;
 
 /// Puts a line behind another text.
-pub(crate) fn pack_span(text: &[u8], span: Span, out: &mut Vec<u8>) -> Result<Span, AllocError>
+pub(crate) fn pack_span(text: &[u8], span: Span, out: &mut Vec<u8>) -> Result<Span, NoMemory>
     requires { IsWithin text.now span }
     ensures line { IfOk result (λ s. line_at out.new.items s ≡ line_at text.now span) }
     ensures within { IfOk result (IsWithin out.new.items) }
@@ -21,7 +22,7 @@ pub(crate) fn pack_span(text: &[u8], span: Span, out: &mut Vec<u8>) -> Result<Sp
     let start = out.len();
     out.extend_from_slice(&text[span.start as usize..span.end as usize])?;
     if out.len() > LAST_PLACE {
-        return Err(AllocError);
+        return Err(NoMemory);
     }
     let start = start as u32;
     Ok(Span {
@@ -32,7 +33,7 @@ pub(crate) fn pack_span(text: &[u8], span: Span, out: &mut Vec<u8>) -> Result<Sp
 }
 
 // Puts a line of a record behind another text.
-fn pack_row(text: &[u8], row: Row, out: &mut Vec<u8>) -> Result<Row, AllocError>
+fn pack_row(text: &[u8], row: Row, out: &mut Vec<u8>) -> Result<Row, NoMemory>
     requires { RowWithin text.now row }
     ensures row { IfOk result (λ r. row_at out.new.items r ≡ row_at text.now row) }
     ensures within { IfOk result (RowWithin out.new.items) }
@@ -41,7 +42,7 @@ fn pack_row(text: &[u8], row: Row, out: &mut Vec<u8>) -> Result<Row, AllocError>
     let start = out.len();
     out.extend_from_slice(&text[row.start as usize..row.end()])?;
     if out.len() > LAST_PLACE {
-        return Err(AllocError);
+        return Err(NoMemory);
     }
     let start = start as u32;
     Ok(Row {
@@ -54,7 +55,7 @@ fn pack_row(text: &[u8], row: Row, out: &mut Vec<u8>) -> Result<Row, AllocError>
 }
 
 // Puts the lines of a record behind another text.
-fn pack_rows(text: &[u8], rows: &[Row], out: &mut Vec<u8>) -> Result<Vec<Row>, AllocError>
+fn pack_rows(text: &[u8], rows: &[Row], out: &mut Vec<u8>) -> Result<Vec<Row>, NoMemory>
     requires { All (RowWithin text.now) rows.now }
     ensures rows { IfOk result (λ v. rows_at out.new.items v.items ≡ rows_at text.now rows.now) }
     ensures within { IfOk result (λ v. All (RowWithin out.new.items) v.items) }
@@ -69,7 +70,7 @@ fn pack_rows(text: &[u8], rows: &[Row], out: &mut Vec<u8>) -> Result<Vec<Row>, A
 }
 
 // Puts lines that stand between records behind another text.
-fn pack_stretch(text: &[u8], stretch: Stretch, out: &mut Vec<u8>) -> Result<Item, AllocError>
+fn pack_stretch(text: &[u8], stretch: Stretch, out: &mut Vec<u8>) -> Result<Item, NoMemory>
     requires { ItemWithin text.now (Lines stretch) }
     ensures item { IfOk result (IsMoved text.now out.new.items (Lines stretch)) }
     ensures grown { IsGrown out.old.items out.new.items }
@@ -78,7 +79,7 @@ fn pack_stretch(text: &[u8], stretch: Stretch, out: &mut Vec<u8>) -> Result<Item
     out.extend_from_slice(&text[stretch.start as usize..stretch.end as usize])?;
     let end = out.len();
     if end > LAST_PLACE {
-        return Err(AllocError);
+        return Err(NoMemory);
     }
     Ok(Item::Lines(Stretch {
         start: start as u32,
@@ -87,7 +88,7 @@ fn pack_stretch(text: &[u8], stretch: Stretch, out: &mut Vec<u8>) -> Result<Item
 }
 
 // Puts a record behind another text.
-fn pack_record(text: &[u8], held: &Record, out: &mut Vec<u8>) -> Result<Item, AllocError>
+fn pack_record(text: &[u8], held: &Record, out: &mut Vec<u8>) -> Result<Item, NoMemory>
     requires { ItemWithin text.now (Held held.now) }
     ensures item { IfOk result (IsMoved text.now out.new.items (Held held.now)) }
     ensures grown { IsGrown out.old.items out.new.items }
@@ -102,7 +103,7 @@ fn pack_record(text: &[u8], held: &Record, out: &mut Vec<u8>) -> Result<Item, Al
 }
 
 // Puts what stands at a place behind another text.
-fn pack_item(text: &[u8], item: &Item, out: &mut Vec<u8>) -> Result<Item, AllocError>
+fn pack_item(text: &[u8], item: &Item, out: &mut Vec<u8>) -> Result<Item, NoMemory>
     requires { ItemWithin text.now item.now }
     ensures item { IfOk result (IsMoved text.now out.new.items item.now) }
     ensures grown { IsGrown out.old.items out.new.items }
@@ -120,7 +121,7 @@ pub(crate) fn pack_items(
     text: &[u8],
     items: &[Item],
     out: &mut Vec<u8>,
-) -> Result<Vec<Item>, AllocError>
+) -> Result<Vec<Item>, NoMemory>
     requires { All (ItemWithin text.now) items.now }
     ensures items { IfOk result (λ v. AreMoved text.now out.new.items items.now v.items) }
     ensures grown { IsGrown out.old.items out.new.items }

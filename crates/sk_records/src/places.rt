@@ -4,9 +4,10 @@ ghost use Rattle.std.specs.Prelude.{slice_set, remove};
 ghost use Rattle.sk_records.specs.Holding.Places.{places_from, all_places, lists_of, list_of, holds};
 ghost use Rattle.sk_records.specs.Kinds.{kind_place};
 
+use crate::NoMemory;
 use crate::items::Item;
 use crate::kinds::{Kind, RecId};
-use std::alloc::{AllocError, Global};
+use std::alloc::Global;
 
 /// Whether an item is a record of a kind.
 pub(crate) fn holds(item: &Item, kind: Kind) -> bool
@@ -24,7 +25,7 @@ pub(crate) fn push_places(
     items: &[Item],
     kind: Kind,
     base: usize,
-) -> Result<(), AllocError>
+) -> Result<(), NoMemory>
     requires { base + length items.now < 2 ^ 64 }
     ensures { OnOk result (places.new.items ≡ places.old.items ++ places_from kind base items.now) }
 {
@@ -37,7 +38,7 @@ pub(crate) fn push_places(
 }
 
 // The places of the records of a kind.
-fn places_of(alloc: Global, items: &[Item], kind: Kind) -> Result<Vec<usize>, AllocError>
+fn places_of(alloc: Global, items: &[Item], kind: Kind) -> Result<Vec<usize>, NoMemory>
     ensures { IfOk result (λ places. places.items ≡ places_from kind 0 items.now) }
 {
     let mut places = Vec::new(alloc);
@@ -46,7 +47,7 @@ fn places_of(alloc: Global, items: &[Item], kind: Kind) -> Result<Vec<usize>, Al
 }
 
 /// The places of the records of every kind, one list a kind, in the order of kinds.
-pub(crate) fn all_places(alloc: Global, items: &[Item]) -> Result<Vec<Vec<usize>>, AllocError>
+pub(crate) fn all_places(alloc: Global, items: &[Item]) -> Result<Vec<Vec<usize>>, NoMemory>
     ensures { IfOk result (λ places. lists_of places.items ≡ all_places items.now) }
 {
     let mut places = Vec::new(alloc);

@@ -9,13 +9,14 @@ ghost use Rattle.sk_records.specs.Holding.Held.{rows_at, blocks_at, IsWithin, It
 ghost use Rattle.sk_records.specs.Holding.Moves.{Moves, IsEnd, IsRead, state_of, OpenWithin, IsBelow, IsLine, IsPartFrom};
 ghost use Rattle.sk_records.specs.declared.items.Item.{Item};
 
+use crate::NoMemory;
 use crate::classes::{LineClass, class_of, is_entry, is_shut};
 use crate::faults::ReadFault;
 use crate::items::{Item, Record, push_line};
 use crate::kinds::Kind;
 use crate::rows::{Role, Row, Span};
 use sk_text::LineIter;
-use std::alloc::{AllocError, Global};
+use std::alloc::Global;
 
 // How many lines a short list of them has at most.
 const FEW: usize = 64;
@@ -89,7 +90,7 @@ fn outside(
 
 // The same lines, with no more room than they need. A short list is copied, since the room that it leaves serves the next one;
 // a long one would for a while be held twice.
-fn exact(rows: Vec<Row>) -> Result<Vec<Row>, AllocError>
+fn exact(rows: Vec<Row>) -> Result<Vec<Row>, NoMemory>
     ensures { IfOk result (λ v. v.items ≡ rows.items) }
 {
     if rows.len() <= FEW {
@@ -101,7 +102,7 @@ fn exact(rows: Vec<Row>) -> Result<Vec<Row>, AllocError>
 }
 
 // A record is closed.
-fn close(text: &[u8], items: &mut Vec<Item>, current: Open, span: Span) -> Result<(), AllocError>
+fn close(text: &[u8], items: &mut Vec<Item>, current: Open, span: Span) -> Result<(), NoMemory>
     requires line { IsWithin text.now span }
     requires rows { All (RowWithin text.now) current.rows.items }
     requires all { All (ItemWithin text.now) items.old.items }

@@ -12,11 +12,11 @@ ghost use Rattle.sk_records.specs.Holding.Ready.{IsReady};
 ghost use Rattle.sk_records.specs.Holding.Places.{all_places, lists_of};
 ghost use Rattle.sk_records.specs.Holding.Spots.{gone_len, front_of, IsSpot};
 
+use crate::NoMemory;
 use crate::inserting::{insert_at, make_room, nearest};
 use crate::items::{Item, Stretch};
 use crate::kinds::Kind;
 use crate::removing::{blank_len, drop_tail_from, is_gone};
-use std::alloc::AllocError;
 
 /// Where a new record goes behind another, and whether that one has a tail.
 #[derive(Clone, Copy)]
@@ -75,7 +75,7 @@ fn insert_one(
     places: &mut Vec<Vec<usize>>,
     at: usize,
     stretch: Stretch,
-) -> Result<(), AllocError>
+) -> Result<(), NoMemory>
     requires place { at ≤ length items.old.items }
     requires index { lists_of places.old.items ≡ all_places items.old.items }
     ensures items { OnOk result (items.new.items ≡ take at items.old.items ++ Lines stretch ∷ drop at items.old.items) }
@@ -95,7 +95,7 @@ pub(crate) fn spot_behind(
     items: &mut Vec<Item>,
     places: &mut Vec<Vec<usize>>,
     place: usize,
-) -> Result<Spot, AllocError>
+) -> Result<Spot, NoMemory>
     requires place { place < length items.old.items }
     requires within { All (ItemWithin text.now) items.old.items }
     requires index { lists_of places.old.items ≡ all_places items.old.items }
@@ -165,7 +165,7 @@ pub(crate) fn make_ready(
     items: &mut Vec<Item>,
     places: &mut Vec<Vec<usize>>,
     kind: Kind,
-) -> Result<Ready, AllocError>
+) -> Result<Ready, NoMemory>
     requires within { All (ItemWithin text.now) items.old.items }
     requires index { lists_of places.old.items ≡ all_places items.old.items }
     ensures ready { IfOk result (λ r. IsReady text.now kind items.new.items r.at r.before) }

@@ -6,12 +6,12 @@ ghost use Rattle.sk_records.specs.Reading.{row_lines};
 ghost use Rattle.sk_records.specs.Written.{bytes_of};
 ghost use Rattle.sk_records.specs.Holding.Held.{bytes_at, rows_at, item_blocks, blocks_at, RowWithin, ItemWithin};
 
+use crate::NoMemory;
 use crate::items::Item;
 use crate::rows::Row;
-use std::alloc::AllocError;
 
 // Appends the lines of a record but the closing one.
-fn write_rows(text: &[u8], rows: &[Row], out: &mut Vec<u8>) -> Result<(), AllocError>
+fn write_rows(text: &[u8], rows: &[Row], out: &mut Vec<u8>) -> Result<(), NoMemory>
     requires within { All (RowWithin text.now) rows.now }
     ensures ok { OnOk result (out.new.items ≡ out.old.items ++ joined (row_lines (rows_at text.now rows.now))) }
     ensures kept { take (length out.old.items) out.new.items ≡ out.old.items }
@@ -23,7 +23,7 @@ fn write_rows(text: &[u8], rows: &[Row], out: &mut Vec<u8>) -> Result<(), AllocE
 }
 
 // Appends what stands at a place.
-fn write_item(text: &[u8], item: &Item, out: &mut Vec<u8>) -> Result<(), AllocError>
+fn write_item(text: &[u8], item: &Item, out: &mut Vec<u8>) -> Result<(), NoMemory>
     requires within { ItemWithin text.now item.now }
     ensures ok { OnOk result (out.new.items ≡ out.old.items ++ bytes_of (item_blocks text.now item.now)) }
     ensures kept { take (length out.old.items) out.new.items ≡ out.old.items }
@@ -42,7 +42,7 @@ fn write_item(text: &[u8], item: &Item, out: &mut Vec<u8>) -> Result<(), AllocEr
 }
 
 /// Appends the bytes of items. At an `Err` some of them may have been appended.
-pub(crate) fn write_items(text: &[u8], items: &[Item], out: &mut Vec<u8>) -> Result<(), AllocError>
+pub(crate) fn write_items(text: &[u8], items: &[Item], out: &mut Vec<u8>) -> Result<(), NoMemory>
     requires within { All (ItemWithin text.now) items.now }
     ensures ok { OnOk result (out.new.items ≡ out.old.items ++ bytes_of (blocks_at text.now items.now)) }
     ensures kept { take (length out.old.items) out.new.items ≡ out.old.items }

@@ -2,9 +2,10 @@
 
 ghost use Rattle.std.specs.Prelude.{◌≡◌, IfOk};
 
+use crate::NoMemory;
 use crate::handle::{EntityId, GroupId};
 use sk_num::{Grid, Items, Text};
-use std::alloc::{AllocError, Global};
+use std::alloc::Global;
 
 /// What a group makes.
 #[derive(Clone, Copy, Debug, PartialEq, Eq)]
@@ -77,7 +78,7 @@ pub struct Group<const S: u32> {
 
 impl<const S: u32> Group<S> {
     /// An equal group.
-    pub fn copy(&self, alloc: Global) -> Result<Group<S>, AllocError>
+    pub fn copy(&self, alloc: Global) -> Result<Group<S>, NoMemory>
         ensures { IfOk result (λ g. g ≡ self.now) }
     {
         Ok(Group {

@@ -29,3 +29,4 @@ pub use params::{FixedPoints, group_count, group_params, own_count, own_params, 
 pub use request::Request;
 pub use sizes::{arcs_of, constraint_sizes, entity_rows, group_rows, sizes_in};
 pub use standing::{Standing, constraint_standing, group_standing, request_standing};
+pub use std::alloc::AllocError as NoMemory;

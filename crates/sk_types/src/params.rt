@@ -12,9 +12,9 @@ use crate::constraint::Constraint;
 use crate::entity::{Entity, Numbering};
 use crate::group::{Group, GroupKind};
 use crate::handle::{EntityId, GroupId, ParamId};
-use crate::{constraint_kind, entity_kind as kind};
+use crate::{NoMemory, constraint_kind, entity_kind as kind};
 use indexmap::IndexSet;
-use std::alloc::{AllocError, Global};
+use std::alloc::Global;
 use std::marker::Model;
 
 /// How many parameters an entity has by its own numbers.
@@ -35,7 +35,7 @@ pub fn own_count<const S: u32>(entity: &Entity<S>) -> usize
 fn push_own_params<const S: u32>(
     params: &mut Vec<ParamId>,
     entity: &Entity<S>,
-) -> Result<(), AllocError>
+) -> Result<(), NoMemory>
     requires { All (λ (p : ParamId). p.0 < 2 ^ 32) (own_params entity.now) }
     ensures { OnOk result (params.new.items ≡ params.old.items ++ own_params entity.now) }
 {
@@ -48,10 +48,7 @@ fn push_own_params<const S: u32>(
 }
 
 /// The parameters that an entity has by its own numbers, in rising handle order.
-pub fn own_params<const S: u32>(
-    alloc: Global,
-    entity: &Entity<S>,
-) -> Result<Vec<ParamId>, AllocError>
+pub fn own_params<const S: u32>(alloc: Global, entity: &Entity<S>) -> Result<Vec<ParamId>, NoMemory>
     requires { All (λ (p : ParamId). p.0 < 2 ^ 32) (own_params entity.now) }
     ensures { IfOk result (λ v. v.items ≡ own_params entity.now) }
 {
@@ -76,7 +73,7 @@ pub fn group_count(kind: GroupKind) -> u16
 fn push_group_params<const S: u32>(
     params: &mut Vec<ParamId>,
     group: &Group<S>,
-) -> Result<(), AllocError>
+) -> Result<(), NoMemory>
     requires { group.now.id.0 ≤ 32767 }
     ensures { OnOk result (params.new.items ≡ params.old.items ++ group_params group.now) }
 {
@@ -87,10 +84,7 @@ fn push_group_params<const S: u32>(
 }
 
 /// The parameters that a group has as its own, in rising handle order: items 0 to 2 are a vector, 3 to 6 a quaternion.
-pub fn group_params<const S: u32>(
-    alloc: Global,
-    group: &Group<S>,
-) -> Result<Vec<ParamId>, AllocError>
+pub fn group_params<const S: u32>(alloc: Global, group: &Group<S>) -> Result<Vec<ParamId>, NoMemory>
     requires { group.now.id.0 ≤ 32767 }
     ensures { IfOk result (λ v. v.items ≡ group_params group.now) }
 {
@@ -116,7 +110,7 @@ impl FixedPoints {
     pub fn of<const S: u32>(
         alloc: Global,
         constraints: &[Constraint<S>],
-    ) -> Result<FixedPoints, AllocError>
+    ) -> Result<FixedPoints, NoMemory>
         ensures { IfOk result (λ fixed. HasFixed fixed constraints.now) }
     {
         let mut fixed = FixedPoints {
@@ -129,7 +123,7 @@ impl FixedPoints {
     }
 
     // One more constraint, which may fix a point.
-    fn fix<const S: u32>(&mut self, constraint: &Constraint<S>) -> Result<(), AllocError>
+    fn fix<const S: u32>(&mut self, constraint: &Constraint<S>) -> Result<(), NoMemory>
         ensures { OnOk result ((e : Entity S) → is_pair e self.new ≡ (is_pair e self.old || fixes e constraint.now)) }
     {
         if constraint.kind == constraint_kind::WHERE_DRAGGED && !constraint.reference {
@@ -153,7 +147,7 @@ fn push_free_params<const S: u32>(
     fixed: &FixedPoints,
     group: GroupId,
     entity: &Entity<S>,
-) -> Result<(), AllocError>
+) -> Result<(), NoMemory>
     requires { All (λ (p : ParamId). p.0 < 2 ^ 32) (own_params entity.now) }
     ensures { OnOk result (params.new.items ≡ params.old.items ++ only_if (entity.now.group.0 == group.0 && not (is_pair entity.now fixed.now)) (own_params entity.now)) }
 {
@@ -170,7 +164,7 @@ pub fn unknown_params<const S: u32>(
     constraints: &[Constraint<S>],
     entities: &[Entity<S>],
     group: &Group<S>,
-) -> Result<Vec<ParamId>, AllocError>
+) -> Result<Vec<ParamId>, NoMemory>
     requires fit { OwnFit entities.now }
     requires known { group.now.id.0 ≤ 32767 }
     ensures { IfOk result (λ v. v.items ≡ unknown_params constraints.now entities.now group.now) }
