@@ -11,6 +11,7 @@ use Rattle.sk_records.specs.declared.items.Item.TheVariants.{Gone, Lines, Held}
 use Rattle.sk_records.specs.Rows.{Row}
 use Rattle.sk_records.specs.Blocks.{Block, Rec, Loose, Record}
 use Rattle.sk_records.specs.Written.{bare_row, bare_rows, bare_rec, bare}
+use Rattle.sk_records.specs.Holding.Marks.{mark_role, mark_end, number_marked, role_marked, end_marked, end_small}
 use Rattle.sk_records.specs.Holding.Held.{bytes_at, row_at, rows_at, rec_at, line_at, item_blocks, blocks_at, RowWithin, ItemWithin}
 use Rattle.sk_records.specs.declared.kinds.Kind.{Kind}
 use Rattle.sk_records.specs.Given.{IsOneRecord, recs_read}
@@ -18,13 +19,21 @@ use Rattle.sk_records.specs.Holding.GivenHeld.{bare_held, IsBareOf, IsGivenAs, I
 use Rattle.sk_records.proofs.HeldLines.{blocks-append, all_right}
 use Rattle.sk_records.specs.Laws.Numbers.{bare-append}
 
+bare_row_at : (text : List ℕ) (r : held.Row) → row_at text (bare_held r) ≡ bare_row (row_at text r)
+bare_row_at text r =
+    let small : mark_end r.mark < 4 = end_small r.mark in
+    rw (number_marked 0 (mark_role r.mark) (mark_end r.mark) small, role_marked 0 (mark_role r.mark) (mark_end r.mark) small, end_marked 0 (mark_role r.mark) (mark_end r.mark) small) refl
+
+bare_row_within : (text : List ℕ) (r : held.Row) → RowWithin text r → RowWithin text (bare_held r)
+bare_row_within text r is = rw (end_marked 0 (mark_role r.mark) (mark_end r.mark) (end_small r.mark)) is
+
 bare_at : (text : List ℕ) (rows : List held.Row) → rows_at text (map bare_held rows) ≡ bare_rows (rows_at text rows)
 bare_at text [] = refl
-bare_at text (r ∷ rs) = ap (λ l. bare_row (row_at text r) ∷ l) (bare_at text rs)
+bare_at text (r ∷ rs) = ap (λ x. x ∷ rows_at text (map bare_held rs)) (bare_row_at text r) ∙ ap (λ l. bare_row (row_at text r) ∷ l) (bare_at text rs)
 
 bare_within : (text : List ℕ) (rows : List held.Row) → All (RowWithin text) rows → All (RowWithin text) (map bare_held rows)
 bare_within text [] all = all
-bare_within text (r ∷ rs) all = All-cons (RowWithin text) (bare_held r) (map bare_held rs) (All-head (RowWithin text) r rs all) (bare_within text rs (All-tail (RowWithin text) r rs all))
+bare_within text (r ∷ rs) all = All-cons (RowWithin text) (bare_held r) (map bare_held rs) (bare_row_within text r (All-head (RowWithin text) r rs all)) (bare_within text rs (All-tail (RowWithin text) r rs all))
 
 pub bare_record : (a b : held_record.Record) → b.kind ≡ a.kind → b.rows.items ≡ map bare_held a.rows.items → b.close ≡ a.close → IsBareOf (Held a) (Held b)
 bare_record a b k r c = record {

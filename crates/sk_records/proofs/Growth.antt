@@ -12,6 +12,7 @@ use Rattle.sk_records.specs.declared.items.Item.{Item}
 use Rattle.sk_records.specs.declared.items.Item.TheVariants.{Gone, Lines, Held}
 use Rattle.sk_records.specs.Rows.{Row}
 use Rattle.sk_records.specs.Blocks.{Block, Rec, Loose, Record}
+use Rattle.sk_records.specs.Holding.Marks.{mark_number, mark_role}
 use Rattle.sk_records.specs.Holding.Held.{bytes_at, line_at, number_held, row_span, row_at, rows_at, rec_at, item_blocks, blocks_at, IsWithin, RowWithin, RecordWithin, ItemWithin}
 use Rattle.sk_records.specs.Holding.BookHeld.{book_blocks}
 use Rattle.sk_records.specs.Holding.Grown.{IsGrown}
@@ -38,7 +39,7 @@ line_same old new s g is =
 row_same : (old new : List ℕ) (r : held.Row) → IsGrown old new → RowWithin old r → row_at new r ≡ row_at old r
 row_same old new r g is =
     let line : line_at new (row_span r) ≡ line_at old (row_span r) = line_same old new (row_span r) g is in
-    ap (λ (l : TextLine). record { number = number_held r.number; role = r.role; body = l.body; ending = l.ending }) line
+    ap (λ (l : TextLine). record { number = number_held (mark_number r.mark); role = mark_role r.mark; body = l.body; ending = l.ending }) line
 
 pub rows_same : (old new : List ℕ) (rows : List held.Row) → IsGrown old new → All (RowWithin old) rows → rows_at new rows ≡ rows_at old rows
 rows_same old new [] g is = refl

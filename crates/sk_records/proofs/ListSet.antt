@@ -7,6 +7,7 @@ use Rattle.sk_text.specs.Lines.{PlacedLine, line_at}
 use Rattle.sk_records.specs.declared.rows.Row as held
 use Rattle.sk_records.specs.Rows.{Row, is_plain_role, is_plain, with_map}
 use Rattle.sk_records.specs.Given.{list_role, list_row}
+use Rattle.sk_records.specs.Holding.Marks.{mark_role}
 use Rattle.sk_records.specs.Holding.Held.{row_of, row_at, rows_at, RowWithin}
 use Rattle.sk_records.specs.Holding.Moves.{IsPartFrom}
 use Rattle.sk_records.specs.Holding.Changes.{is_plain_row, with_list}
@@ -16,25 +17,25 @@ use Rattle.sk_records.proofs.RowsSet.{row_lined}
 
 plain_at : (text : List ℕ) (rows : List held.Row) → rows_at text (filter is_plain_row rows) ≡ filter is_plain (rows_at text rows)
 plain_at text [] = refl
-plain_at text (r ∷ rs) = elim (two (is_plain_role r.role)) [ inl e ↦ rw e (ap (λ l. row_at text r ∷ l) (plain_at text rs)) | inr e ↦ rw e (plain_at text rs) ]
+plain_at text (r ∷ rs) = elim (two (is_plain_role (mark_role r.mark))) [ inl e ↦ rw e (ap (λ l. row_at text r ∷ l) (plain_at text rs)) | inr e ↦ rw e (plain_at text rs) ]
 
 pub list_at : (text : List ℕ) (new rows : List held.Row) → rows_at text (with_list new rows) ≡ with_map (rows_at text new) (rows_at text rows)
 list_at text new [] = refl
-list_at text new (r ∷ rs) = elim (two (is_plain_role r.role)) [
+list_at text new (r ∷ rs) = elim (two (is_plain_role (mark_role r.mark))) [
   | inl e ↦ rw e (ap (λ l. row_at text r ∷ l) (list_at text new rs))
   | inr e ↦ rw e (map-append (row_at text) new (filter is_plain_row rs) ∙ ap (λ l. rows_at text new ++ l) (plain_at text rs))
 ]
 
 plain_within : (text : List ℕ) (rows : List held.Row) → All (RowWithin text) rows → All (RowWithin text) (filter is_plain_row rows)
 plain_within text [] all = All-nil (RowWithin text)
-plain_within text (r ∷ rs) all = elim (two (is_plain_role r.role)) [
+plain_within text (r ∷ rs) all = elim (two (is_plain_role (mark_role r.mark))) [
   | inl e ↦ rw e (All-cons (RowWithin text) r (filter is_plain_row rs) (All-head (RowWithin text) r rs all) (plain_within text rs (All-tail (RowWithin text) r rs all)))
   | inr e ↦ rw e (plain_within text rs (All-tail (RowWithin text) r rs all))
 ]
 
 pub list_within : (text : List ℕ) (new rows : List held.Row) → All (RowWithin text) new → All (RowWithin text) rows → All (RowWithin text) (with_list new rows)
 list_within text new [] n all = n
-list_within text new (r ∷ rs) n all = elim (two (is_plain_role r.role)) [
+list_within text new (r ∷ rs) n all = elim (two (is_plain_role (mark_role r.mark))) [
   | inl e ↦ rw e (All-cons (RowWithin text) r (with_list new rs) (All-head (RowWithin text) r rs all) (list_within text new rs n (All-tail (RowWithin text) r rs all)))
   | inr e ↦ rw e (All-append (RowWithin text) new (filter is_plain_row rs) n (plain_within text rs (All-tail (RowWithin text) r rs all)))
 ]

@@ -12,6 +12,7 @@ use Rattle.sk_records.specs.declared.items.Item.{Item}
 use Rattle.sk_records.specs.declared.items.Item.TheVariants.{Gone, Lines, Held}
 use Rattle.sk_records.specs.Rows.{Row}
 use Rattle.sk_records.specs.Blocks.{Block, Rec, Loose, Record}
+use Rattle.sk_records.specs.Holding.Marks.{mark_number, mark_role, mark_end}
 use Rattle.sk_records.specs.Holding.Held.{bytes_at, line_at, number_held, row_span, row_at, rows_at, item_blocks, blocks_at, IsWithin, RowWithin, ItemWithin}
 use Rattle.sk_records.specs.Holding.Grown.{IsGrown}
 use Rattle.sk_records.specs.Holding.Removed.{is_gone}
@@ -48,17 +49,17 @@ module _ (old text new : List ℕ) (s : Span) (n : ℕ) (is : new ≡ old ++ byt
   moved_within = record { body = omega arith; ending = omega (arith, w.body, w.ending); short = omega (arith, w.body, w.ending, w.short); within = omega (arith, new_length, en) }
 
 -- a line of a record
-module _ (old text new : List ℕ) (r : held.Row) (n : ℕ) (is : new ≡ old ++ bytes_at text r.start (r.body_end + r.end_len)) (w : RowWithin text r) (en : n ≡ length old) where
+module _ (old text new : List ℕ) (r : held.Row) (n : ℕ) (is : new ≡ old ++ bytes_at text r.start (r.body_end + mark_end r.mark)) (w : RowWithin text r) (en : n ≡ length old) where
   abbrev pub moved_row : held.Row
-  moved_row = record { start = n; body_end = n + (r.body_end - r.start); number = r.number; end_len = r.end_len; role = r.role }
+  moved_row = record { start = n; body_end = n + (r.body_end - r.start); mark = r.mark }
 
-  places : n + (r.body_end - r.start) + r.end_len ≡ n + (r.body_end + r.end_len - r.start)
+  places : n + (r.body_end - r.start) + mark_end r.mark ≡ n + (r.body_end + mark_end r.mark - r.start)
   places = omega (arith, w.body)
 
   pub moved_row_at : row_at new moved_row ≡ row_at text r
   moved_row_at =
-      ap (λ (k : ℕ). record { number = number_held r.number; role = r.role; body = bytes_at new n (n + (r.body_end - r.start)); ending = bytes_at new (n + (r.body_end - r.start)) k }) places
-      ∙ ap (λ (l : TextLine). record { number = number_held r.number; role = r.role; body = l.body; ending = l.ending }) (moved_line old text new (row_span r) n is w en)
+      ap (λ (k : ℕ). record { number = number_held (mark_number r.mark); role = mark_role r.mark; body = bytes_at new n (n + (r.body_end - r.start)); ending = bytes_at new (n + (r.body_end - r.start)) k }) places
+      ∙ ap (λ (l : TextLine). record { number = number_held (mark_number r.mark); role = mark_role r.mark; body = l.body; ending = l.ending }) (moved_line old text new (row_span r) n is w en)
 
   pub moved_row_within : RowWithin new moved_row
   moved_row_within = subst (λ (k : ℕ). IsWithin new (record { start = n; body_end = n + (r.body_end - r.start); end = k })) (sym places) (moved_within old text new (row_span r) n is w en)

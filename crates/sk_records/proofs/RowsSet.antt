@@ -11,6 +11,7 @@ use Rattle.sk_records.specs.declared.items.Item.{Item}
 use Rattle.sk_records.specs.declared.items.Item.TheVariants.{Gone, Lines, Held}
 use Rattle.sk_records.specs.Rows.{Row, Role, Plain, last_value, last_place, value_in, is_known, value_body, added_row, with_body, with_value}
 use Rattle.sk_records.specs.Blocks.{Loose, Record, with_rows}
+use Rattle.sk_records.specs.Holding.Marks.{mark_of, mark_number, mark_role, mark_end, number_marked, role_marked, end_marked}
 use Rattle.sk_records.specs.Holding.Held.{bytes_at, line_at, number_held, row_of, row_at, rows_at, item_blocks, IsWithin, RowWithin, RecordWithin}
 use Rattle.sk_records.specs.Holding.Grown.{IsGrown}
 use Rattle.std.proofs.Math.ListN.{get_or-map}
@@ -58,26 +59,34 @@ value_at_end key value (r ∷ rs) e = rw (place_known key rs) (by_place (last_pl
     by_place None false e f = ap (λ l. r ∷ l) (f refl)
     by_place (Some j) t e f = cc
 
+-- the number of a line that was read
+pub number_read : (n : ℕ) → 0 < n → number_held n ≡ Some n
+number_read n some = grind (arith, some)
+
 -- a held line whose places are those of a line of the text
 pub row_lined : (text : List ℕ) (s : Span) (role : Role) (n : ℕ) (l : TextLine) → IsWithin text s → line_at text s ≡ l → row_at text (row_of s role n) ≡ record { number = number_held n; role = role; body = l.body; ending = l.ending }
 row_lined text s role n l is e =
-    let places : s.body_end + (s.end - s.body_end) ≡ s.end = omega (arith, is.ending) in
-    ap (λ (k : ℕ). record { number = number_held n; role = role; body = bytes_at text s.start s.body_end; ending = bytes_at text s.body_end k }) places
-    ∙ ap (λ (l : TextLine). record { number = number_held n; role = role; body = l.body; ending = l.ending }) e
+    let len = s.end - s.body_end in
+    let small : len < 4 = omega (arith, is.short) in
+    let places : s.body_end + len ≡ s.end = omega (arith, is.ending) in
+    rw (number_marked n role len small, role_marked n role len small, end_marked n role len small, places)
+    (ap (λ (l : TextLine). record { number = number_held n; role = role; body = l.body; ending = l.ending }) e)
 
 pub row_within : (text : List ℕ) (s : Span) (role : Role) (n : ℕ) → IsWithin text s → RowWithin text (row_of s role n)
-row_within text s role n is = record { body = is.body; ending = omega arith; short = omega (arith, is.ending, is.short); within = omega (arith, is.ending, is.within) }
+row_within text s role n is =
+    let len : mark_end (mark_of n role (s.end - s.body_end)) ≡ s.end - s.body_end = end_marked n role (s.end - s.body_end) (omega (arith, is.short)) in
+    record { body = is.body; ending = omega arith; short = omega (arith, len, is.ending, is.short); within = omega (arith, len, is.ending, is.within) }
 
 -- the held lines after a line was changed
 pub rows_set : (old new : List ℕ) (rows : List held.Row) (at : ℕ) (r : held.Row) (s : Span) (key value : List ℕ) → IsGrown old new → All (RowWithin old) rows → r ≡ get_or rows at r →
-    IsWithin new s → line_at new s ≡ record { body = value_body key value; ending = bytes_at old r.body_end (r.body_end + r.end_len) } → last_place key (rows_at old rows) ≡ Some at →
-    rows_at new (set rows at (row_of s r.role r.number)) ≡ with_value key value (rows_at old rows)
+    IsWithin new s → line_at new s ≡ record { body = value_body key value; ending = bytes_at old r.body_end (r.body_end + mark_end r.mark) } → last_place key (rows_at old rows) ≡ Some at →
+    rows_at new (set rows at (row_of s (mark_role r.mark) (mark_number r.mark))) ≡ with_value key value (rows_at old rows)
 rows_set old new rows at r s key value g all is within line place =
-    let x : held.Row = row_of s r.role r.number in
+    let x : held.Row = row_of s (mark_role r.mark) (mark_number r.mark) in
     let here : get_or (rows_at old rows) at (row_at old r) ≡ row_at old r = get_or-map (row_at old) rows at r ∙ ap (row_at old) (sym is) in
     map-set (row_at new) rows at x
     ∙ ap (λ (l : List Row). set l at (row_at new x)) (rows_same old new rows g all)
-    ∙ ap (set (rows_at old rows) at) (row_lined new s r.role r.number (record { body = value_body key value; ending = bytes_at old r.body_end (r.body_end + r.end_len) }) within line)
+    ∙ ap (set (rows_at old rows) at) (row_lined new s (mark_role r.mark) (mark_number r.mark) (record { body = value_body key value; ending = bytes_at old r.body_end (r.body_end + mark_end r.mark) }) within line)
     ∙ ap (λ (y : Row). set (rows_at old rows) at (with_body (value_body key value) y)) (sym here)
     ∙ sym (value_at_place key value (rows_at old rows) at (row_at old r) place)
 

@@ -14,6 +14,7 @@ use Rattle.sk_records.specs.declared.items.Item.TheVariants.{Lines, Held}
 use Rattle.sk_records.specs.Blocks.{Block, Loose}
 use Rattle.sk_records.specs.Reading.{row_lines, block_lines}
 use Rattle.sk_records.specs.Written.{lines_of, bytes_of}
+use Rattle.sk_records.specs.Holding.Marks.{mark_end}
 use Rattle.sk_records.specs.Holding.Held.{bytes_at, line_at, row_span, rows_at, item_blocks, blocks_at, IsWithin, RowWithin}
 use Rattle.sk_records.specs.Holding.Moves.{IsPartFrom}
 use Rattle.sk_records.proofs.HeldLines.{line_bytes_at}
@@ -45,7 +46,7 @@ record_bytes text r is =
 
 -- one more line of a record
 pub rows_more : (text : List ℕ) (rows : List held.Row) (i : ℕ) (d : held.Row) → i < length rows → All (RowWithin text) rows → let r = get_or rows i d in
-    joined (row_lines (rows_at text (drop i rows))) ≡ bytes_at text r.start (r.body_end + r.end_len) ++ joined (row_lines (rows_at text (drop (i + 1) rows)))
+    joined (row_lines (rows_at text (drop i rows))) ≡ bytes_at text r.start (r.body_end + mark_end r.mark) ++ joined (row_lines (rows_at text (drop (i + 1) rows)))
 rows_more text rows i d lt all =
     let r = get_or rows i d in
     ap (λ (rs : List held.Row). joined (row_lines (rows_at text rs))) (drop_more rows i d lt)

@@ -1,4 +1,5 @@
 -- How a book is held, and what the private functions say: nothing here is of the format, and no crate above cites it.
+pub mod Marks
 pub mod Held
 pub mod Grown
 pub mod Places

@@ -28,7 +28,7 @@ use crate::map_lines::{MapLines, map_lines};
 use crate::packing::{pack_items, pack_span};
 use crate::reading::read_lines;
 use crate::removing::remove_at;
-use crate::rows::{LAST_PLACE, Row, Span};
+use crate::rows::{LAST_NUMBER, Row, Span};
 use crate::writing::write_items;
 use crate::{NoMemory, lookup, places};
 use sk_text::lines;
@@ -84,12 +84,12 @@ impl Book {
         })
     }
 
-    /// Reads a text that has no fault but, maybe, its size: such as what a book writes.
+    /// Reads a text that has no fault but, maybe, its size: such as what a book writes. At 2^28 - 1 bytes memory is wanting.
     pub fn again(alloc: Global, text: Vec<u8>) -> Result<Book, NoMemory>
         requires { IsOk (read_lines (lines_in text.items)) }
         ensures { IfOk result (λ book. read_lines (lines_in text.items) ≡ Ok book) }
     {
-        if text.len() >= LAST_PLACE {
+        if text.len() >= LAST_NUMBER {
             return Err(NoMemory);
         }
         let Parts { header, items } = match parts_of(alloc, &text) {
@@ -342,7 +342,7 @@ struct Parts {
 }
 
 fn parts_of(alloc: Global, text: &[u8]) -> Result<Parts, ReadFault>
-    requires small { length text.now + 1 < 2 ^ 32 }
+    requires small { length text.now + 1 < 2 ^ 28 }
     ensures read { IsParted text.now result (read_lines (lines_in text.now)) }
     ensures within { IfOk result (AreWithin text.now) }
 {

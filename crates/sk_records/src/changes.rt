@@ -35,7 +35,7 @@ fn set_row_value(
         Some(at) => {
             let row = rows[at];
             let span = push_changed(text, key, value, row)?;
-            rows[at] = Row::of(span, row.role, row.number);
+            rows[at] = Row::of(span, row.mark.role(), row.mark.number());
         }
         None => {
             let span = push_added(text, key, value)?;

@@ -10,14 +10,14 @@ use crate::NoMemory;
 use crate::items::Item;
 use crate::kinds::Kind;
 use crate::reading::read_lines;
-use crate::rows::{LAST_PLACE, Row};
+use crate::rows::{LAST_NUMBER, LAST_PLACE, Row};
 use sk_text::lines;
 
 fn forget_rows(rows: &mut Vec<Row>)
     ensures { rows.new.items ≡ map bare_held rows.old.items }
 {
     for i in 0..rows.len() {
-        rows[i].number = 0;
+        rows[i].mark = rows[i].mark.bare();
     }
 }
 
@@ -46,7 +46,7 @@ pub(crate) fn push_given(text: &mut Vec<u8>, given: &[u8]) -> Result<Vec<Item>, 
 {
     let base = text.len();
     text.extend_from_slice(given)?;
-    if text.len() >= LAST_PLACE {
+    if text.len() > LAST_PLACE || given.len() >= LAST_NUMBER {
         return Err(NoMemory);
     }
     match read_lines(*text.allocator(), text, base, lines(given), 1) {

@@ -2,6 +2,7 @@
 ghost use Rattle.std.specs.Prelude.{◌≡◌, ◌≤◌, ◌+◌, ◌++◌, ◌∷◌, [], List, length, IfOk, OnOk, vec_len};
 ghost use Rattle.sk_records.specs.Rows.{value_body};
 ghost use Rattle.sk_records.specs.Holding.Held.{bytes_at, line_at, IsWithin, RowWithin};
+ghost use Rattle.sk_records.specs.Holding.Marks.{mark_end};
 ghost use Rattle.sk_records.specs.Holding.Grown.{IsGrown};
 
 use crate::NoMemory;
@@ -25,7 +26,7 @@ pub(crate) fn push_changed(
     old: Row,
 ) -> Result<Span, NoMemory>
     requires within { RowWithin text.old.items old }
-    ensures line { IfOk result (λ s. line_at text.new.items s ≡ record { body = value_body key.now value.now; ending = bytes_at text.old.items old.body_end (old.body_end + old.end_len) }) }
+    ensures line { IfOk result (λ s. line_at text.new.items s ≡ record { body = value_body key.now value.now; ending = bytes_at text.old.items old.body_end (old.body_end + mark_end old.mark) }) }
     ensures within { IfOk result (IsWithin text.new.items) }
     ensures grown { IsGrown text.old.items text.new.items }
 {

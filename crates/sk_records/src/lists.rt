@@ -53,7 +53,7 @@ pub(crate) fn push_list(text: &mut Vec<u8>, given: &[u8]) -> Result<Vec<Row>, No
 fn is_plain(row: Row) -> bool
     ensures { result ≡ is_plain_row row }
 {
-    match row.role {
+    match row.mark.role() {
         Role::Plain => true,
         Role::Brace | Role::Entry => false,
     }

@@ -6,6 +6,7 @@ ghost use Rattle.std.specs.List.{All};
 ghost use Rattle.sk_records.specs.Rows.{last_value, last_number, last_place, value_at};
 ghost use Rattle.sk_records.specs.Holding.Found.{key_at, noted};
 ghost use Rattle.sk_records.specs.Holding.Held.{bytes_at, rows_at, RowWithin};
+ghost use Rattle.sk_records.specs.Holding.Marks.{mark_role};
 
 use crate::rows::{Role, Row};
 use sk_text::split_key;
@@ -13,9 +14,9 @@ use sk_text::split_key;
 /// The value that a line has under a key, lent from the text.
 pub(crate) fn value_in<'t>(text: &'t [u8], row: Row, key: &[u8]) -> Option<&'t [u8]>
     requires { RowWithin text.now row }
-    ensures { option_copied result ≡ value_at key.now row.role (bytes_at text.now row.start row.body_end) }
+    ensures { option_copied result ≡ value_at key.now (mark_role row.mark) (bytes_at text.now row.start row.body_end) }
 {
-    match row.role {
+    match row.mark.role() {
         Role::Plain => match split_key(row.body(text)) {
             Some((before, after)) if before == key => Some(after),
             _ => None,
@@ -69,9 +70,9 @@ pub(crate) fn last_place(text: &[u8], rows: &[Row], key: &[u8]) -> Option<usize>
 // The key of a line, lent from the text.
 fn key_in<'t>(text: &'t [u8], row: Row) -> Option<&'t [u8]>
     requires { RowWithin text.now row }
-    ensures { option_copied result ≡ key_at row.role (bytes_at text.now row.start row.body_end) }
+    ensures { option_copied result ≡ key_at (mark_role row.mark) (bytes_at text.now row.start row.body_end) }
 {
-    match row.role {
+    match row.mark.role() {
         Role::Plain => match split_key(row.body(text)) {
             Some((before, _)) => Some(before),
             None => None,

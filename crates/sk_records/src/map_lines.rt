@@ -73,7 +73,7 @@ fn next_entry(text: &[u8], rows: &[Row]) -> Option<(usize, Row)>
     ensures within { IfSome result (λ p. RowWithin text.now p.1) }
 {
     for (i, row) in rows.iter().enumerate() {
-        if let Role::Entry = row.role {
+        if let Role::Entry = row.mark.role() {
             return Some((i + 1, *row));
         }
     }

@@ -48,9 +48,7 @@ fn pack_row(text: &[u8], row: Row, out: &mut Vec<u8>) -> Result<Row, NoMemory>
     Ok(Row {
         start,
         body_end: start + (row.body_end - row.start),
-        number: row.number,
-        end_len: row.end_len,
-        role: row.role,
+        mark: row.mark,
     })
 }
 

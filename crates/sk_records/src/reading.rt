@@ -41,7 +41,7 @@ fn as_line(number: usize) -> u32
 // A line of a record, with its number.
 fn row(text: &[u8], span: Span, role: Role, number: usize) -> Row
     requires within { IsWithin text.now span }
-    requires few { number < 2 ^ 32 }
+    requires few { number < 2 ^ 28 }
     requires some { 0 < number }
     ensures line { row_held text.now result ≡ row_at number role (line_held text.now span) }
     ensures within { RowWithin text.now result }
@@ -60,7 +60,7 @@ fn outside(
     number: usize,
     class: LineClass,
 ) -> Result<Option<Open>, ReadFault>
-    requires few { number < 2 ^ 32 }
+    requires few { number < 2 ^ 28 }
     requires some { 0 < number }
     requires line { IsLine text.now span }
     requires all { All (ItemWithin text.now) items.old.items }
@@ -130,7 +130,7 @@ fn inside(
     number: usize,
     class: LineClass,
 ) -> Result<Option<Open>, ReadFault>
-    requires few { number < 2 ^ 32 }
+    requires few { number < 2 ^ 28 }
     requires some { 0 < number }
     requires line { IsWithin text.now span }
     requires closed { current.list ≡ None }
@@ -169,7 +169,7 @@ fn within(
     span: Span,
     number: usize,
 ) -> Result<Option<Open>, ReadFault>
-    requires few { number < 2 ^ 32 }
+    requires few { number < 2 ^ 28 }
     requires some { 0 < number }
     requires line { IsWithin text.now span }
     requires list { current.list ≡ Some at }
@@ -203,7 +203,7 @@ fn step(
     span: Span,
     number: usize,
 ) -> Result<Option<Open>, ReadFault>
-    requires few { number < 2 ^ 32 }
+    requires few { number < 2 ^ 28 }
     requires some { 0 < number }
     requires line { IsLine text.now span }
     requires current { OpenWithin text.now current }
@@ -232,7 +232,7 @@ fn step(
 
 // Whether a text may end here.
 fn at_end(current: &Option<Open>) -> Result<(), ReadFault>
-    requires few { IsBelow (2 ^ 32) current.now }
+    requires few { IsBelow (2 ^ 28) current.now }
     ensures { (text : List ℕ) → IsEnd (state_of text current.now) result }
 {
     match current {
@@ -255,7 +255,7 @@ pub(crate) fn read_lines(
     requires parts { All (IsPartFrom text.now base) lines }
     requires lines { AreLines (map line_at lines) }
     requires places { length text.now < 2 ^ 32 }
-    requires few { first + length lines < 2 ^ 32 }
+    requires few { first + length lines < 2 ^ 28 }
     requires some { 0 < first }
     ensures read { IsRead text.now result (read_from first Outside (map line_at lines.entry)) }
     ensures within { IfOk result (λ items. All (ItemWithin text.now) items.items) }

@@ -6,6 +6,7 @@ use Rattle.sk_records.specs.declared.items.Item.{Item}
 use Rattle.sk_records.specs.declared.rows.Row as held
 use Rattle.sk_records.specs.Rows.{Row, is_plain_role}
 use Rattle.sk_records.specs.Blocks.{with_rows}
+use Rattle.sk_records.specs.Holding.Marks.{mark_role}
 use Rattle.sk_records.specs.Holding.Held.{item_blocks, ItemWithin}
 use Rattle.sk_records.specs.Holding.Places.{holds}
 use Rattle.sk_records.specs.Holding.Grown.{IsGrown}
@@ -22,7 +23,7 @@ pub record ItemChange (old new : List ℕ) (before after : List Item) (at : ℕ)
   pub grown : IsGrown old new
 
 abbrev pub is_plain_row : held.Row → Bool
-is_plain_row r = is_plain_role r.role
+is_plain_row r = is_plain_role (mark_role r.mark)
 
 -- the held lines with a new remap list in the place of the first, and no further one
 abbrev pub with_list : List held.Row → List held.Row → List held.Row

@@ -8,11 +8,12 @@ use Rattle.sk_records.specs.declared.kinds.Kind.{Kind}
 use Rattle.sk_records.specs.Kinds.{same_kind}
 use Rattle.sk_records.specs.Written.{bare}
 use Rattle.sk_records.specs.Given.{read_given, given_records}
+use Rattle.sk_records.specs.Holding.Marks.{bare_mark}
 use Rattle.sk_records.specs.Holding.Held.{item_blocks, blocks_at, ItemWithin}
 
 -- a held line without its number
 abbrev pub bare_held : held.Row → held.Row
-bare_held r = record { start = r.start; body_end = r.body_end; number = 0; end_len = r.end_len; role = r.role }
+bare_held r = record { start = r.start; body_end = r.body_end; mark = bare_mark r.mark }
 
 -- the same item without numbers
 pub record IsBareOf (old new : Item) : Type 0 where

@@ -10,6 +10,7 @@ use Rattle.sk_records.specs.declared.items.Item.{Item}
 use Rattle.sk_records.specs.declared.items.Item.TheVariants.{Gone, Lines, Held}
 use Rattle.sk_records.specs.Rows.{Row, Role}
 use Rattle.sk_records.specs.Blocks.{Block, Rec, Loose, Record}
+use Rattle.sk_records.specs.Holding.Marks.{mark_of, mark_number, mark_role, mark_end}
 
 -- the bytes of a text between two places
 abbrev pub bytes_at : List ℕ → ℕ → ℕ → List ℕ
@@ -24,14 +25,14 @@ number_held n = if nat_eq n 0 then None else Some n
 
 -- where a line of a record stands
 abbrev pub row_span : held.Row → Span
-row_span r = record { start = r.start; body_end = r.body_end; end = r.body_end + r.end_len }
+row_span r = record { start = r.start; body_end = r.body_end; end = r.body_end + mark_end r.mark }
 
 -- a line of a record at some places
 abbrev pub row_of : Span → Role → ℕ → held.Row
-row_of s role n = record { start = s.start; body_end = s.body_end; number = n; end_len = s.end - s.body_end; role = role }
+row_of s role n = record { start = s.start; body_end = s.body_end; mark = mark_of n role (s.end - s.body_end) }
 
 abbrev pub row_at : List ℕ → held.Row → Row
-row_at text r = record { number = number_held r.number; role = r.role; body = bytes_at text r.start r.body_end; ending = bytes_at text r.body_end (r.body_end + r.end_len) }
+row_at text r = record { number = number_held (mark_number r.mark); role = mark_role r.mark; body = bytes_at text r.start r.body_end; ending = bytes_at text r.body_end (r.body_end + mark_end r.mark) }
 
 abbrev pub rows_at : List ℕ → List held.Row → List Row
 rows_at text rows = map (row_at text) rows

@@ -3,7 +3,6 @@ use Rattle.std.specs.List.{All}
 use Rattle.std.proofs.lemmas.List.{take_all}
 use Rattle.std.proofs.lemmas.List.Elements.{All-nil}
 use Rattle.sk_records.specs.declared.rows.Row as held
-use Rattle.sk_records.specs.Rows.{Plain}
 use Rattle.sk_records.specs.Holding.Held.{rows_at, RowWithin}
 use Rattle.sk_records.proofs.Growth.{grown_none, grown_then}
 use Rattle.sk_records.proofs.PackLemmas.{rows_packed, rows_packed_within}
@@ -28,7 +27,7 @@ loop-row-preserved c =
     let i = c.loop-row.row-index in
     let made = c.loop-row.packed.items in
     let x = c.in_ok-made.made in
-    let d : held.Row = record { start = 0; body_end = 0; number = 0; end_len = 0; role = Plain } in
+    let d : held.Row = record { start = 0; body_end = 0; mark = record { code = 0 } } in
     let inv = c.loop-row.invariant in
     record {
       rows = ap (rows_at new) c.in_ok-push.ensures.items ∙ rows_packed text old new rows i made d x c.loop-row-test.true c.pack_row.ensures.grown c.in_ok-made.ensures.row inv.within inv.rows;

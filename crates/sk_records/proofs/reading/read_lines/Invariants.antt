@@ -10,7 +10,7 @@ abbrev pub invariant-loop-line : goal.invariant-loop-line
 invariant-loop-line l = record {
   parts : All (IsPartFrom l.text l.base) l.line-iterator;
   lines : AreLines (map line_at l.line-iterator);
-  few : l.number + length l.line-iterator < 2 ^ 32;
+  few : l.number + length l.line-iterator < 2 ^ 28;
   some : 0 < l.number;
   within : All (ItemWithin l.text) l.items.items;
   current : OpenWithin l.text l.current;
