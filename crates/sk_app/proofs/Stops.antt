@@ -7,7 +7,7 @@ use Rattle.std.proofs.lemmas.Bool.{cases_Bool}
 use Rattle.sk_records.specs.Blocks.{Block}
 use Rattle.sk_records.specs.declared.faults.ReadFault.{ReadFault}
 use Rattle.sk_records.specs.declared.faults.ReadFault.TheVariants as text
-use Rattle.sk_records.specs.Answers.{IsAnswer as IsRead}
+use Rattle.sk_records.specs.Answers.{IsFault}
 use Rattle.sk_model.specs.declared.faults.ModelFault.{ModelFault}
 use Rattle.sk_model.specs.declared.faults.ModelFault.TheVariants as model
 use Rattle.sk_model.specs.Typed.{Typed, is_space_kind, group_handle, request_handle, constraint_handle}
@@ -17,14 +17,22 @@ use Rattle.sk_app.specs.Built.{first_without, is_built_request, is_built_constra
 use Rattle.sk_app.specs.Lent.{IsAnswer, stop_of_text, stop_of_model}
 
 -- the fault of a text is what the work stops for
-pub text_stops : (e : ReadFault) (r : Result (List Block) ReadFault) → IsRead (Err e) r → IsAnswer (Err (stop_of_text e)) (with_err Text r)
+text_told : (e : ReadFault) (r : Result (List Block) ReadFault) → r ≡ Err e → IsAnswer (Err (stop_of_text e)) (with_err Text r)
 unfolding stop_of_text
-text_stops text.NoMemory r h = tt
-text_stops text.TooLarge r h = ap (with_err Text) h
-text_stops text.BadHeader r h = ap (with_err Text) h
-text_stops (text.BadLine n) r h = ap (with_err Text) h
-text_stops (text.OpenMap n) r h = ap (with_err Text) h
-text_stops (text.OpenRecord n) r h = ap (with_err Text) h
+text_told text.NoMemory r h = tt
+text_told text.TooLarge r h = ap (with_err Text) h
+text_told text.BadHeader r h = ap (with_err Text) h
+text_told (text.BadLine n) r h = ap (with_err Text) h
+text_told (text.OpenMap n) r h = ap (with_err Text) h
+text_told (text.OpenRecord n) r h = ap (with_err Text) h
+
+text_wanted : (e : ReadFault) (r : Result (List Block) ReadFault) → e ≡ text.NoMemory → IsAnswer (Err (stop_of_text e)) (with_err Text r)
+unfolding stop_of_text
+text_wanted e r h = rw h tt
+
+pub text_stops : (e : ReadFault) (r : Result (List Block) ReadFault) → IsFault text.NoMemory e r → IsAnswer (Err (stop_of_text e)) (with_err Text r)
+text_stops e r (inl h) = text_wanted e r h
+text_stops e r (inr h) = text_told e r h
 
 -- so is the fault of a model
 told : {T : Type 0} (e : ModelFault) (r : Result T ModelFault) → r ≡ Err e → IsAnswer (Err (stop_of_model e)) (with_err IllTyped r)
@@ -43,7 +51,7 @@ wanted : {T : Type 0} (e : ModelFault) (r : Result T ModelFault) → e ≡ model
 unfolding stop_of_model
 wanted e r h = rw h tt
 
-pub model_stops : {T : Type 0} (e : ModelFault) (r : Result T ModelFault) → (e ≡ model.NoMemory) ⊎ (r ≡ Err e) → IsAnswer (Err (stop_of_model e)) (with_err IllTyped r)
+pub model_stops : {T : Type 0} (e : ModelFault) (r : Result T ModelFault) → IsFault model.NoMemory e r → IsAnswer (Err (stop_of_model e)) (with_err IllTyped r)
 model_stops e r (inl h) = wanted e r h
 model_stops e r (inr h) = told e r h
 

@@ -1,6 +1,7 @@
 -- A first fault: tests and readings one behind the other, of which the first that fails answers.
-use Rattle.std.specs.Prelude.{◌≡◌, ◌⊎◌, ℕ, ◌||◌, ◌==◌, nat_lt, nat_eq, ℤ, List, [], ◌∷◌, ◌++◌, Option, Some, None, Bool, true, false, Result, Ok, Err}
+use Rattle.std.specs.Prelude.{ℕ, ◌||◌, ◌==◌, nat_lt, nat_eq, ℤ, List, [], ◌∷◌, ◌++◌, Option, Some, None, Bool, true, false, Result, Ok, Err}
 use Rattle.std.specs.List.{list_any}
+use Rattle.sk_records.specs.Answers.{IsAnswer as IsDefined}
 use Rattle.sk_types.specs.declared.standing.Standing.{Standing}
 use Rattle.sk_types.specs.declared.standing.Standing.TheVariants as standing
 use Rattle.sk_model.specs.declared.faults.ModelFault.{ModelFault}
@@ -41,5 +42,4 @@ all_of kept one seen (r ∷ rs) = then_of (one seen r) (λ x. then_of (all_of ke
 
 -- the answer is the defined one; only want of memory is free
 abbrev pub IsAnswer : {T : Type 0} → Result T ModelFault → Result T ModelFault → Type 0
-IsAnswer (Ok x) r = r ≡ Ok x
-IsAnswer (Err e) r = (e ≡ NoMemory) ⊎ (r ≡ Err e)
+IsAnswer result r = IsDefined NoMemory result r

@@ -1,5 +1,5 @@
 -- A line that moves the reader moves what is left.
-use Rattle.std.proofs.Common.{◌≡◌, ℕ, ◌+◌, ◌-◌, List, [], ◌∷◌, ◌++◌, length, take, drop, refl, ap, sym, ◌∙◌, append_assoc, arith, subst, Some, Result, Ok, Err, length-append}
+use Rattle.std.proofs.Common.{◌≡◌, inl, inr, ℕ, ◌+◌, ◌-◌, List, [], ◌∷◌, ◌++◌, length, take, drop, refl, ap, sym, ◌∙◌, append_assoc, arith, subst, Some, Result, Ok, Err, length-append}
 use Rattle.std.proofs.lemmas.Option.{some_pair_parts}
 use Rattle.std.proofs.lemmas.List.{take_at, drop_at, length-take}
 use Rattle.std.proofs.Math.Seq.{take-add}
@@ -9,10 +9,11 @@ use Rattle.sk_records.specs.declared.faults.ReadFault.{ReadFault}
 use Rattle.sk_records.specs.declared.faults.ReadFault.TheVariants as fault
 use Rattle.sk_records.specs.declared.rows.Span.{Span}
 use Rattle.sk_records.specs.Blocks.{Block}
-use Rattle.sk_records.specs.Reading.{State, Step, Bad, Goes, Gives, onward, with_block, read_from, at_end, step}
+use Rattle.sk_records.specs.Reading.{State, Step, Bad, Goes, Gives, onward, with_block, read_from, step}
 use Rattle.sk_records.specs.Holding.Held.{blocks_at, bytes_at, line_at as line_held, IsWithin}
 use Rattle.sk_records.specs.declared.items.Item.{Item}
-use Rattle.sk_records.specs.Holding.Moves.{Moves, moved, onto, IsFault, IsPartFrom, IsLine}
+use Rattle.sk_records.specs.Holding.Moves.{Moves, moved, onto, IsPartFrom, IsLine}
+use Rattle.sk_records.specs.Answers.{IsFault}
 use Rattle.sk_records.proofs.HeldLines.{drop_drop}
 
 onto_block : (bs : List Block) (b : Block) (r : Result (List Block) ReadFault) → onto bs (with_block b r) ≡ onto (bs ++ (b ∷ [])) r
@@ -30,18 +31,10 @@ read_more n s l ls bs cs t e = onto_moved n (step n s l) bs cs t (λ (u : State)
 pub read_bad : (n : ℕ) (s : State) (l : TextLine) (ls : List TextLine) (bs : List Block) → step n s l ≡ Bad → onto bs (read_from n s (l ∷ ls)) ≡ Err (fault.BadLine n)
 read_bad n s l ls bs e = rw e refl
 
-pub read_end : (n : ℕ) (s : State) (bs : List Block) (r : Result (List Block) ReadFault) (e : ReadFault) → IsFault e (at_end s) → onto bs (read_from n s []) ≡ r → IsFault e r
-read_end n s bs r fault.NoMemory h g = tt
-read_end n s bs r fault.TooLarge h g = sym g ∙ ap (onto bs) h
-read_end n s bs r fault.BadHeader h g = sym g ∙ ap (onto bs) h
-read_end n s bs r (fault.BadLine m) h g = sym g ∙ ap (onto bs) h
-read_end n s bs r (fault.OpenMap m) h g = sym g ∙ ap (onto bs) h
-read_end n s bs r (fault.OpenRecord m) h g = sym g ∙ ap (onto bs) h
-
 -- a fault at a line is the first fault
-pub read_stop : (text : List ℕ) (old new : List Item) (n : ℕ) (s : State) (l : TextLine) (ls : List TextLine) (r : Result (List Block) ReadFault) (e : ReadFault) → Moves text old new n (step n s l) (Err e) → onto (blocks_at text old) (read_from n s (l ∷ ls)) ≡ r → IsFault e r
-read_stop text old new n s l ls r fault.NoMemory m g = tt
-read_stop text old new n s l ls r (fault.BadLine k) m g = sym g ∙ read_bad n s l ls (blocks_at text old) m.0 ∙ ap (λ (x : ℕ). Err (fault.BadLine x)) (sym m.1)
+pub read_stop : (text : List ℕ) (old new : List Item) (n : ℕ) (s : State) (l : TextLine) (ls : List TextLine) (r : Result (List Block) ReadFault) (e : ReadFault) → Moves text old new n (step n s l) (Err e) → onto (blocks_at text old) (read_from n s (l ∷ ls)) ≡ r → IsFault fault.NoMemory e r
+read_stop text old new n s l ls r fault.NoMemory m g = inl refl
+read_stop text old new n s l ls r (fault.BadLine k) m g = inr (sym g ∙ read_bad n s l ls (blocks_at text old) m.0 ∙ ap (λ (x : ℕ). Err (fault.BadLine x)) (sym m.1))
 read_stop text old new n s l ls r (fault.OpenMap k) m g = absurd m
 read_stop text old new n s l ls r (fault.OpenRecord k) m g = absurd m
 read_stop text old new n s l ls r fault.TooLarge m g = absurd m

@@ -1,8 +1,6 @@
 -- What the calls of a book answer.
-use Rattle.std.specs.Prelude.{◌≡◌, List, [], Result, Ok, Err, slice_index_or}
+use Rattle.std.specs.Prelude.{◌≡◌, ◌⊎◌, List, [], Result, Ok, Err, slice_index_or}
 use Rattle.sk_records.specs.declared.kinds.RecId.{RecId}
-use Rattle.sk_records.specs.declared.faults.ReadFault.{ReadFault}
-use Rattle.sk_records.specs.declared.faults.ReadFault.TheVariants as fault
 use Rattle.sk_records.specs.Rows.{Row}
 use Rattle.sk_records.specs.Blocks.{Block, records}
 
@@ -10,12 +8,11 @@ use Rattle.sk_records.specs.Blocks.{Block, records}
 abbrev pub rows_in : RecId → List Block → List Row
 rows_in rec bs = slice_index_or (records rec.kind bs) rec.place []
 
--- an answer is the defined one; only want of memory is free
-abbrev pub IsAnswer : Result (List Block) ReadFault → Result (List Block) ReadFault → Type 0
-IsAnswer (Ok x) r = r ≡ Ok x
-IsAnswer (Err fault.NoMemory) r = Unit {0}
-IsAnswer (Err fault.TooLarge) r = r ≡ Err fault.TooLarge
-IsAnswer (Err fault.BadHeader) r = r ≡ Err fault.BadHeader
-IsAnswer (Err (fault.BadLine n)) r = r ≡ Err (fault.BadLine n)
-IsAnswer (Err (fault.OpenMap n)) r = r ≡ Err (fault.OpenMap n)
-IsAnswer (Err (fault.OpenRecord n)) r = r ≡ Err (fault.OpenRecord n)
+-- the fault is want of memory, or the defined one
+abbrev pub IsFault : {T E : Type 0} → E → E → Result T E → Type 0
+IsFault memory e r = (e ≡ memory) ⊎ (r ≡ Err e)
+
+-- the answer is the defined one; only the fault that is want of memory is free
+abbrev pub IsAnswer : {T E : Type 0} → E → Result T E → Result T E → Type 0
+IsAnswer memory (Ok x) r = r ≡ Ok x
+IsAnswer memory (Err e) r = IsFault memory e r

@@ -13,6 +13,7 @@ ghost use Rattle.sk_records.specs.declared.kinds.Kind.TheVariants.{Group, Entity
 ghost use Rattle.sk_records.specs.Reading.{read_text};
 ghost use Rattle.sk_records.specs.Written.{bytes_of, IsText};
 ghost use Rattle.sk_records.specs.Answers.{IsAnswer, rows_in};
+ghost use Rattle.sk_records.specs.declared.faults.ReadFault.TheVariants as fault;
 ghost use Rattle.sk_records.specs.MapRows.{entry_lines};
 
 use crate::adding::add_given;
@@ -66,7 +67,7 @@ impl Model for Book {
 impl Book {
     /// Reads a text, or finds its first fault: its size, the header, then the lines in order.
     pub fn read(alloc: Global, text: Vec<u8>) -> Result<Book, ReadFault>
-        ensures { IsAnswer result (read_text text.items) }
+        ensures { IsAnswer fault.NoMemory result (read_text text.items) }
     {
         if text.len() > LIMIT {
             return Err(ReadFault::TooLarge);

@@ -10,7 +10,8 @@ use Rattle.sk_records.specs.Written.{IsText}
 use Rattle.sk_records.specs.Holding.Held.{line_at, blocks_at, IsWithin, ItemWithin}
 use Rattle.sk_records.specs.declared.book.Parts.{Parts}
 use Rattle.sk_records.specs.declared.faults.ReadFault.{ReadFault}
-use Rattle.sk_records.specs.Holding.Moves.{IsFault}
+use Rattle.sk_records.specs.declared.faults.ReadFault.TheVariants.{NoMemory}
+use Rattle.sk_records.specs.Answers.{IsFault}
 use Rattle.sk_records.specs.Holding.Places.{all_places, lists_of}
 
 -- the header, then the blocks of the items
@@ -36,7 +37,7 @@ pub record IsBook {A : Type 0} (text : List ℕ) (header : Span) (items : List I
 -- the parts are those of the text, or the fault is the first
 abbrev pub IsParted : List ℕ → Result Parts ReadFault → Result (List Block) ReadFault → Type 0
 IsParted text (Ok p) r = r ≡ Ok (book_blocks text p.header p.items.items)
-IsParted text (Err e) r = IsFault e r
+IsParted text (Err e) r = IsFault NoMemory e r
 
 pub record AreWithin (text : List ℕ) (p : Parts) : Type 0 where
   pub first : IsWithin text p.header

@@ -10,6 +10,7 @@ use Rattle.sk_records.specs.declared.items.Item.{Item}
 use Rattle.sk_records.specs.declared.reading.Open.{Open}
 use Rattle.sk_records.specs.Rows.{Row}
 use Rattle.sk_records.specs.Blocks.{Block}
+use Rattle.sk_records.specs.Answers.{IsFault}
 use Rattle.sk_records.specs.Reading.{State, Outside, Inside, Within, Step, Bad, Goes, Gives, at_end}
 use Rattle.sk_records.specs.Holding.Held.{rows_at, blocks_at, line_at, IsWithin, RowWithin}
 
@@ -60,22 +61,13 @@ pub record IsPartFrom (text : List ℕ) (base : ℕ) (p : PlacedLine) : Type 0 w
   pub bytes : take (length (line_bytes p.line)) (drop (base + p.at) text) ≡ line_bytes p.line
   pub short : length p.line.ending ≤ 2
 
--- what was found is what is defined: only want of memory is free
-abbrev pub IsFault : {T : Type 0} → ReadFault → Result T ReadFault → Type 0
-IsFault fault.NoMemory r = Unit {0}
-IsFault fault.TooLarge r = r ≡ Err fault.TooLarge
-IsFault fault.BadHeader r = r ≡ Err fault.BadHeader
-IsFault (fault.BadLine m) r = r ≡ Err (fault.BadLine m)
-IsFault (fault.OpenMap m) r = r ≡ Err (fault.OpenMap m)
-IsFault (fault.OpenRecord m) r = r ≡ Err (fault.OpenRecord m)
-
 abbrev pub IsRead : {A : Type 0} → List ℕ → Result (Vec Item A) ReadFault → Result (List Block) ReadFault → Type 0
 IsRead text (Ok v) r = r ≡ Ok (blocks_at text v.items)
-IsRead text (Err e) r = IsFault e r
+IsRead text (Err e) r = IsFault fault.NoMemory e r
 
 abbrev pub IsEnd : {U : Type 0} → State → Result U ReadFault → Type 0
 IsEnd s (Ok u) = at_end s ≡ Ok []
-IsEnd s (Err e) = IsFault e (at_end s)
+IsEnd s (Err e) = IsFault fault.NoMemory e (at_end s)
 
 abbrev pub onto : List Block → Result (List Block) ReadFault → Result (List Block) ReadFault
 onto bs (Ok cs) = Ok (bs ++ cs)
