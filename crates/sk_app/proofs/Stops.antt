@@ -1,5 +1,5 @@
 -- What stops the work on a model.
-use Rattle.std.proofs.Common.{◌≡◌, ◌⊎◌, inl, inr, refl, ap, List, [], ◌∷◌, Option, Some, None, Bool, true, Result, Err}
+use Rattle.std.proofs.Common.{◌≡◌, inl, inr, refl, ap, List, [], ◌∷◌, Option, Some, None, Bool, true, Result, Err}
 use Rattle.std.specs.Prelude.{ℕ}
 use Rattle.std.specs.Option.{option_or}
 use Rattle.std.specs.List.{list_all}

@@ -28,7 +28,7 @@ use Rattle.sk_app.specs.Ends.{IsModelReply}
 abbrev pub list_of : List (Bor (List ℕ)) → List (List ℕ)
 list_of texts = map (λ (t : Bor (List ℕ)). t.now) texts
 
--- The answer is the given one, unless memory was wanted.
+-- The answer is the given one, unless memory was wanted: a stop is a refusal or want of memory, and a definition has refusals alone.
 abbrev pub IsAnswer : {A : Type 0} → Result A Stop → Result A Refusal → Type 0
 IsAnswer (Ok x) answer = answer ≡ Ok x
 IsAnswer (Err (Refused r)) answer = answer ≡ Err r
