@@ -1,5 +1,5 @@
 -- What a system's visit says of the answer.
-use Rattle.std.proofs.Common.{◌≡◌, ℕ, ap, sym, ◌∙◌, subst, List, Option, Some, None}
+use Rattle.std.proofs.Common.{◌≡◌, ℕ, ap, sym, ◌∙◌, refl, subst, List, length, take, ℤ, Option, Some, None}
 use Rattle.std.specs.Prelude.{IfSome}
 use Rattle.std.proofs.lemmas.List.{length-map}
 use Rattle.sk_expr.specs.Seen.{Seen, without_names}
@@ -11,15 +11,11 @@ use Rattle.sk_expr.specs.declared.row.RowName.{RowName}
 use Rattle.sk_expr.specs.declared.visited.Visited.{Visited}
 use Rattle.sk_elim.specs.Elimination.{past_limit}
 use Rattle.sk_krawczyk.specs.IntervalTest.{Outcome, stops, fails, passes, interval_test}
-use Rattle.sk_krawczyk.specs.Answers.{IsTried, IsCertified, StopsAs, IsSound, outcome_at, names_at}
+use Rattle.sk_krawczyk.specs.Answers.{IsTried, StopsAs, IsSound, outcome_at, names_at}
+use Rattle.sk_krawczyk.specs.PassedLaws.{passed-centre}
 use Rattle.sk_krawczyk.specs.declared.certificate.Certificate.{Certificate as StoredCertificate}
 use Rattle.sk_krawczyk.specs.declared.fault.CertFault.{CertFault}
 use Rattle.sk_krawczyk.specs.declared.point.Tried.{Tried}
-
-certified-from : {s : ℕ} (names : List RowName) (o : Outcome) (t : Tried s) → IsTried names o t → IsCertified names o t.certificate
-certified-from names (stops h) t a = absurd a
-certified-from names (fails columns moves) t (i, j, k) = k
-certified-from names (passes columns moves c) t (i, j, k) = k
 
 pub past-at : (s params : ℕ) (seen : Option Seen) → seen ≡ None → outcome_at s params seen ≡ stops past_limit
 past-at s params seen e = ap (outcome_at s params) e
@@ -31,10 +27,10 @@ module _ {s : ℕ} (params : ℕ) (v : Visited s) (testable : IsTestable params 
   outcome-same : outcome_at s params seen ≡ interval_test s (system_of params v)
   outcome-same = ap (outcome_at s params) is ∙ ap (interval_test s) (without_names-seen params v testable)
 
-  pub certified-at : (t : Tried s) → IsTried v.rows (interval_test s (system_of params v)) t → IsCertified (names_at seen) (outcome_at s params seen) t.certificate
-  certified-at t h =
-      subst (λ (names : List RowName). IsCertified names (outcome_at s params seen) t.certificate) (sym names-same)
-      (subst (λ (o : Outcome). IsCertified v.rows o t.certificate) (sym outcome-same) (certified-from v.rows (interval_test s (system_of params v)) t h))
+  pub tried-at : (t : Tried s) → IsTried v.rows (interval_test s (system_of params v)) t → IsTried (names_at seen) (outcome_at s params seen) t
+  tried-at t h =
+      subst (λ (names : List RowName). IsTried names (outcome_at s params seen) t) (sym names-same)
+      (subst (λ (o : Outcome). IsTried v.rows o t) (sym outcome-same) h)
 
   pub stops-at : (e : CertFault) → StopsAs (interval_test s (system_of params v)) e → StopsAs (outcome_at s params seen) e
   stops-at e h = subst (λ (o : Outcome). StopsAs o e) (sym outcome-same) h
@@ -47,3 +43,15 @@ module _ {s : ℕ} (params : ℕ) (v : Visited s) (testable : IsTestable params 
     subst (λ (names : List RowName). IsSound names (without_names params (seen_of v)) k) (sym names-same)
         (subst (λ (x : SystemAt). IsSound v.rows x k) (sym (without_names-seen params v testable)) h),
   )
+
+-- the centre is the unknowns, which begin with the point
+module _ {s : ℕ} (names : List RowName) (v : SystemAt) (x : List ℤ) (begins : take (length x) v.unknowns ≡ x) where
+  begins-from : (o : Outcome) (t : Tried s) → interval_test s v ≡ o → IsTried names o t → IfSome t.certificate (λ k. take (length x) k.centre ≡ x)
+  begins-from (stops h) t e a = absurd a
+  begins-from (fails columns moves) t e (i, j, none) = subst (λ (c : Option (StoredCertificate s)). IfSome c (λ k. take (length x) k.centre ≡ x)) (sym none) tt
+  begins-from (passes columns moves c) t e (i, j, (k, some, is)) =
+      subst (λ (o : Option (StoredCertificate s)). IfSome o (λ d. take (length x) d.centre ≡ x)) (sym some)
+      (ap (take (length x)) (is.centre ∙ passed-centre s v c columns moves e) ∙ begins)
+
+  pub begins-at : (t : Tried s) → IsTried names (interval_test s v) t → IfSome t.certificate (λ k. take (length x) k.centre ≡ x)
+  begins-at t h = begins-from (interval_test s v) t refl h

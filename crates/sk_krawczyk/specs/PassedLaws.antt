@@ -1,5 +1,5 @@
 -- What a system holds whose interval test passes.
-use Rattle.std.proofs.Common.{◌≡◌, ℕ, refl, List, length, map, ℤ, Option, Some, None, Result, Ok, Err, Bool, true, false}
+use Rattle.std.proofs.Common.{◌≡◌, ℕ, refl, ap, sym, List, length, map, ℤ, Option, Some, None, Result, Ok, Err, Bool, true, false}
 use Rattle.std.specs.Prelude.{not, if◌then◌else◌}
 use Rattle.sk_num.specs.Ends.{Ends, mid}
 use Rattle.sk_expr.specs.System.{SystemAt}
@@ -78,3 +78,9 @@ module _ (s : ℕ) (v : SystemAt) (c : Certificate) (columns : List ℕ) (moves 
   pub interval_test-passed : interval_test s v ≡ passes columns moves c → Passed s v c columns
   unfolding interval_test
   interval_test-passed h = from-slopes (each_some (slopes_at s v) v.rows) refl h
+
+-- the centre is the unknowns
+pub passed-centre : (s : ℕ) (v : SystemAt) (c : Certificate) (columns : List ℕ) (moves : List ℤ) → interval_test s v ≡ passes columns moves c → c.centre ≡ v.unknowns
+passed-centre s v c columns moves h =
+    let p = interval_test-passed s v c columns moves h in
+    ap (λ (d : Certificate). d.centre) (sym (box_test-passed s v (basis_of p.elimination) (map radius_of p.step) c p.box_met).is)

@@ -1,5 +1,9 @@
+ghost use Rattle.std.specs.Prelude.{◌≡◌, IfOk};
+
+use crate::NoMemory;
 use sk_expr::RowName;
 use sk_num::{Grid, Items, Mat};
+use std::alloc::Global;
 
 /// A row without a pivot, and whether it misses: is zero nowhere in the box.
 #[derive(Clone, Copy, Debug, PartialEq, Eq)]
@@ -31,6 +35,25 @@ pub struct Certificate<const S: u32> {
     pub suspects: Items<Suspect>,
     /// The approximate inverse of the slopes of retained rows in solved columns: a row for each solved column.
     pub inverse: Mat<S>,
+}
+
+impl<const S: u32> Certificate<S> {
+    /// An equal certificate in memory of its own.
+    pub fn copy(&self, alloc: Global) -> Result<Certificate<S>, NoMemory>
+        ensures { IfOk result (λ c. c ≡ self.now) }
+    {
+        Ok(Certificate {
+            radius_logs: self.radius_logs.copy(alloc)?,
+            bound: self.bound,
+            spread: self.spread,
+            centre: self.centre.copy(alloc)?,
+            held: self.held.copy(alloc)?,
+            solved: self.solved.copy(alloc)?,
+            retained: self.retained.copy(alloc)?,
+            suspects: self.suspects.copy(alloc)?,
+            inverse: self.inverse.copy(alloc)?,
+        })
+    }
 }
 
 /// What is given to a test without elimination: solved columns, retained rows, an approximate inverse and radii.

@@ -1,7 +1,7 @@
-ghost use Rattle.std.specs.Prelude.{◌≡◌, ℕ, length, IfOk, IfSome, Some, MatchResult};
+ghost use Rattle.std.specs.Prelude.{◌≡◌, ℕ, length, take, IfOk, IfSome, Some, MatchResult};
 ghost use Rattle.sk_num.specs.Scale.{IsScale};
 ghost use Rattle.sk_expr.specs.Seen.{Seen, without_names};
-ghost use Rattle.sk_krawczyk.specs.Answers.{IsCertified, StopsAs, IsSound, outcome_at, names_at};
+ghost use Rattle.sk_krawczyk.specs.Answers.{IsTried, IsCertified, StopsAs, IsSound, outcome_at, names_at};
 
 use crate::certificate::Certificate;
 use crate::fault::CertFault;
@@ -17,8 +17,35 @@ fn certificate_of<const S: u32>(tried: Tried<S>) -> Option<Certificate<S>>
     tried.certificate
 }
 
-/// The certificate of a system at a point, present exactly where the interval test of the system there passes. PastLimit
-/// comes also where a reading that the system takes there passes the limit.
+/// The interval test of a system at a point: `try_point` of what the system is there. PastLimit comes also where a reading
+/// that the system takes there passes the limit. The certificate's centre begins with the point.
+pub fn try_at<P: AtPoint<S>, const S: u32>(
+    alloc: Global,
+    system: &P,
+    point: &[Grid<S>],
+) -> Result<Tried<S>, CertFault>
+    requires scale { IsScale S }
+    requires point { length point.now ≡ P.params_of system.now }
+    ensures answer { let seen = P.seen_at system.now point.now in
+        let outcome = outcome_at S (P.params_of system.now) seen in
+        MatchResult result (IsTried (names_at seen) outcome) (StopsAs outcome) }
+    ensures sound { IfOk result (λ t. IfSome t.certificate (λ k. (seen : Seen) × (P.seen_at system.now point.now ≡ Some seen)
+        × IsSound (names_at (P.seen_at system.now point.now)) (without_names (P.params_of system.now) seen) k)) }
+    ensures begins { IfOk result (λ t. IfSome t.certificate (λ k. take (length point.now) k.centre ≡ point.now)) }
+{
+    let visited = match system.at(alloc, point) {
+        Err(VisitFault::PastLimit) => return Err(CertFault::PastLimit),
+        Err(VisitFault::NoMemory) => return Err(CertFault::NoMemory),
+        Ok(visited) => visited,
+    };
+    match try_point(alloc, &visited, system.params()) {
+        Err(e) => Err(e),
+        Ok(tried) => Ok(tried),
+    }
+}
+
+/// The certificate of a system at a point, present exactly where the interval test of the system there passes. The faults
+/// are those of `try_at`.
 pub fn certify<P: AtPoint<S>, const S: u32>(
     alloc: Global,
     system: &P,
@@ -31,13 +58,9 @@ pub fn certify<P: AtPoint<S>, const S: u32>(
         MatchResult result (IsCertified (names_at seen) outcome) (StopsAs outcome) }
     ensures sound { IfOk result (λ c. IfSome c (λ k. (seen : Seen) × (P.seen_at system.now point.now ≡ Some seen)
         × IsSound (names_at (P.seen_at system.now point.now)) (without_names (P.params_of system.now) seen) k)) }
+    ensures begins { IfOk result (λ c. IfSome c (λ k. take (length point.now) k.centre ≡ point.now)) }
 {
-    let visited = match system.at(alloc, point) {
-        Err(VisitFault::PastLimit) => return Err(CertFault::PastLimit),
-        Err(VisitFault::NoMemory) => return Err(CertFault::NoMemory),
-        Ok(visited) => visited,
-    };
-    match try_point(alloc, &visited, system.params()) {
+    match try_at(alloc, system, point) {
         Err(e) => Err(e),
         Ok(tried) => Ok(certificate_of(tried)),
     }

@@ -1,7 +1,7 @@
 ghost use Rattle.std.specs.Prelude.{◌≡◌, ◌≤◌, ◌-◌, length, map, IfOk, IfSome, MatchResult};
 ghost use Rattle.sk_num.specs.Scale.{IsScale};
 ghost use Rattle.sk_expr.specs.Visits.{system_of, IsTestable};
-ghost use Rattle.sk_expr.specs.declared.fault.VisitFault.TheVariants.{PastLimit, NoMemory};
+ghost use Rattle.sk_expr.specs.declared.fault.VisitFault.TheVariants.{PastLimit, NoMemory as VisitNoMemory};
 ghost use Rattle.sk_krawczyk.specs.IntervalTest.{box_test, over_limit};
 ghost use Rattle.sk_krawczyk.specs.Answers.{radius_of_log, IsMet, IsPresent, IsSound, IsGiven, given_basis, plain_basis};
 
@@ -23,7 +23,7 @@ fn basis_of<const S: u32>(
     requires { length v.now.rows ≤ 65535 }
     ensures { MatchResult result
         (λ b. (plain_basis b ≡ given_basis params v.now given.now) × (b.inverse ≡ given.now.inverse))
-        (λ e. e ≡ NoMemory) }
+        (λ e. e ≡ VisitNoMemory) }
 {
     let held = match others(alloc, params, &given.solved) {
         Err(e) => return Err(e),

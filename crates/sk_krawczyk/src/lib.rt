@@ -21,7 +21,7 @@ mod sizes;
 mod suspects;
 
 pub use certificate::{Certificate, Given, Suspect};
-pub use certified::certify;
+pub use certified::{certify, try_at};
 pub use fault::CertFault;
 pub use given::test_box;
 pub use point::{Tried, try_point};

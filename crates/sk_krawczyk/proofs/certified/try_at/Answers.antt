@@ -1,12 +1,10 @@
-use Rattle.std.proofs.Common.{◌≡◌, ℕ, Option, Some, sym, subst}
+use Rattle.std.proofs.Common.{ℕ, subst}
 use Rattle.std.specs.Prelude.{IfSome}
-use Rattle.sk_expr.specs.Seen.{Seen, without_names}
 use Rattle.sk_expr.specs.Visits.{system_of}
 use Rattle.sk_krawczyk.specs.IntervalTest.{interval_test}
-use Rattle.sk_krawczyk.specs.Answers.{IsTried, IsCertified, StopsAs, IsSound, outcome_at, names_at}
-use Rattle.sk_krawczyk.specs.declared.certificate.Certificate.{Certificate}
-use Rattle.sk_krawczyk.proofs.CertifyLemmas.{certified-at, stops-at, sound-at}
-use Rattle.sk_krawczyk.proofs.certified.certify.Goals as goal
+use Rattle.sk_krawczyk.specs.Answers.{IsTried, StopsAs, IsSound}
+use Rattle.sk_krawczyk.proofs.CertifyLemmas.{tried-at, stops-at, sound-at, begins-at}
+use Rattle.sk_krawczyk.proofs.certified.try_at.Goals as goal
 
 pub returns-in-Err-clause-answer : goal.returns-in-Err-clause-answer
 returns-in-Err-clause-answer g c =
@@ -25,7 +23,7 @@ returns-clause-answer g c =
     let v = c.in-Ok.visited in
     let t = c.in-Ok-try_point.tried in
     let tried = subst (λ (k : ℕ). IsTried v.rows (interval_test s (system_of k v)) t) c.params.ensures c.in-Ok-try_point.ensures.answer in
-    subst (λ (k : Option (Certificate s)). IsCertified (names_at seen) (outcome_at s params seen) k) (sym c.certificate_of.ensures) (certified-at params v c.in-Ok.ensures.testable seen c.in-Ok.ensures.seen t tried)
+    tried-at params v c.in-Ok.ensures.testable seen c.in-Ok.ensures.seen t tried
 
 pub returns-clause-sound : goal.returns-clause-sound
 returns-clause-sound g c =
@@ -35,5 +33,13 @@ returns-clause-sound g c =
     let v = c.in-Ok.visited in
     let t = c.in-Ok-try_point.tried in
     let sound = subst (λ (k : ℕ). IfSome t.certificate (IsSound v.rows (system_of k v))) c.params.ensures c.in-Ok-try_point.ensures.sound in
-    subst (λ (o : Option (Certificate s)). IfSome o (λ k. (x : Seen) × (seen ≡ Some x) × IsSound (names_at seen) (without_names params x) k)) (sym c.certificate_of.ensures)
-    (sound-at params v c.in-Ok.ensures.testable seen c.in-Ok.ensures.seen t.certificate sound)
+    sound-at params v c.in-Ok.ensures.testable seen c.in-Ok.ensures.seen t.certificate sound
+
+pub returns-clause-begins : goal.returns-clause-begins
+returns-clause-begins g c =
+    let s = g.row.S in
+    let params = g.P.AtPoint.params_of c.args.system.now in
+    let v = c.in-Ok.visited in
+    let t = c.in-Ok-try_point.tried in
+    let tried = subst (λ (k : ℕ). IsTried v.rows (interval_test s (system_of k v)) t) c.params.ensures c.in-Ok-try_point.ensures.answer in
+    begins-at v.rows (system_of params v) c.args.point.now c.in-Ok.ensures.begins.unknowns t tried
