@@ -1,0 +1,4 @@
+pub mod Search
+pub mod Results
+pub mod SearchLaws
+pub mod Examples
