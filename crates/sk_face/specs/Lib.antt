@@ -1,0 +1,4 @@
+pub mod FaceRows
+pub mod FaceViews
+pub mod SideLaws
+pub mod Examples
