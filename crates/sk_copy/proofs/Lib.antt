@@ -1,0 +1,5 @@
+pub mod Ordered
+pub mod Listing
+pub mod Apart
+pub mod Extended
+pub mod Making

@@ -1,0 +1,7 @@
+pub mod Order
+pub mod Extended
+pub mod Wanted
+pub mod Copies
+pub mod Known
+pub mod Laws
+pub mod Examples
