@@ -48,11 +48,11 @@ has_last c (x ∷ es) n = elim (cases_Bool (same_copy c (copied x))) [
 has_kept : (c : CopyKey) (cs : List CopyKey) (es fs : List RemapEntry) → has_copy c es ≡ true → extended cs es ≡ Some fs → has_copy c fs ≡ true
 has_kept c cs es fs h e = let b = behind cs es fs e in subst (λ (x : List RemapEntry). has_copy c x ≡ true) (sym b.1) (has-append c es b.0 h)
 
-abbrev AllHave : List CopyKey → List RemapEntry → Type 0
+abbrev pub AllHave : List CopyKey → List RemapEntry → Type 0
 AllHave [] es = Unit {0}
 AllHave (c ∷ cs) es = (has_copy c es ≡ true) × AllHave cs es
 
-all_have : (cs : List CopyKey) (es fs : List RemapEntry) → extended cs es ≡ Some fs → AllHave cs fs
+pub all_have : (cs : List CopyKey) (es fs : List RemapEntry) → extended cs es ≡ Some fs → AllHave cs fs
 all_have [] es fs e = tt
 all_have (c ∷ cs) es fs e = by_copy c cs es fs e
     (λ t more. (has_kept c cs es fs t more, all_have cs es fs more))
@@ -103,7 +103,7 @@ one_more c es new few h = record {
       (IsDistinct-push same_copy_equiv (copies_in es) c h.copies_differ new);
 }
 
-stays_list : (cs : List CopyKey) (es fs : List RemapEntry) → extended cs es ≡ Some fs → IsList es → IsList fs
+pub stays_list : (cs : List CopyKey) (es fs : List RemapEntry) → extended cs es ≡ Some fs → IsList es → IsList fs
 stays_list [] es fs e h = (let same : es ≡ fs = cc in subst IsList same h)
 stays_list (c ∷ cs) es fs e h = by_copy c cs es fs e (λ t more. stays_list cs es fs more h) (λ f few more. stays_list cs (with_copy c es) fs more (one_more c es f few h))
 

@@ -3,7 +3,7 @@
 #![tactic(auto)]
 
 ghost use Rattle.std.specs.Prelude.{◌≡◌};
-ghost use Rattle.sk_copy.specs.Laws.{ExtendedLaw};
+ghost use Rattle.sk_copy.specs.Laws.{ExtendedLaw, MadeLaw, WantedLaw};
 
 pub mod copy_number;
 mod extrude;
@@ -25,4 +25,14 @@ pub use std::alloc::AllocError as NoMemory;
 /// What holds of remap lists that are extended.
 pub fn law_extended()
     ensures { ExtendedLaw }
+{}
+
+/// The copies that a group has are numbered in rising handle of what is copied, then by the copy's number.
+pub fn law_wanted()
+    ensures { WantedLaw }
+{}
+
+/// The entities that a group makes by a list in which numbers and copies stand apart have distinct handles, in rising order.
+pub fn law_made()
+    ensures { MadeLaw }
 {}

@@ -1,0 +1,5 @@
+use Rattle.sk_copy.proofs.Apartness.{made_rise}
+use Rattle.sk_copy.proofs.law_made.Goals as goal
+
+pub returns : goal.returns
+returns c = record { rise = λ g list es c few l r h e. made_rise g list es c few l r h e }
