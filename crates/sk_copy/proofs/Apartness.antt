@@ -1,13 +1,14 @@
 -- What a group makes has different handles, and stands by rising handle.
 use Rattle.std.proofs.Common.{◌≡◌, inl, inr, ℕ, ◌<◌, ◌≤◌, List, [], ◌∷◌, ◌++◌, map, Bool, true, false, nat_eq, nat_lt, Option, Some, None, Ok, refl, sym, ap, ◌∙◌, subst, arith}
 use Rattle.std.specs.Prelude.{◌==◌, if◌then◌else◌}
-use Rattle.std.specs.List.{AllByRecursion, IsDistinct, filter, flat_map, fold}
+use Rattle.std.specs.List.{All, AllByRecursion, IsDistinct, filter, flat_map, fold}
 use Rattle.std.specs.List.Sorted.{IsStrictlySortedBy}
 use Rattle.std.specs.Ordering.{nat_cmp}
 use Rattle.std.specs.declared.cmp.Ordering.TheVariants.{Less}
 use Rattle.std.proofs.lemmas.Bool.{cases_Bool}
 use Rattle.std.proofs.lemmas.Bool.Decides.{nat_tests}
 use Rattle.std.proofs.lemmas.List.{map-append}
+use Rattle.std.proofs.lemmas.List.Elements.{All-from_recursion, recursion_from_All}
 use Rattle.sk_num.specs.Each.{cons_if, each_some}
 use Rattle.sk_types.specs.declared.entity.Entity.{Entity}
 use Rattle.sk_types.specs.declared.entity.Numbering.{Numbering}
@@ -17,17 +18,17 @@ use Rattle.sk_types.specs.declared.group.Group.{Group}
 use Rattle.sk_types.specs.declared.group.GroupKind.{GroupKind}
 use Rattle.sk_types.specs.declared.group.GroupKind.TheVariants.{Space, Plane, Extrude, Translate, Linked}
 use Rattle.sk_types.specs.declared.group.RemapEntry.{RemapEntry}
-use Rattle.sk_types.specs.Copies.{CopyKey}
+use Rattle.sk_types.specs.Copies.{CopyKey, copied, same_copy}
 use Rattle.sk_types.specs.Handles.{item_of_group}
 use Rattle.sk_types.specs.Kinds.{is_face, is_point}
 use Rattle.sk_types.specs.Lists.{only_if}
 use Rattle.sk_types.specs.Lookups.{Rise, entity_handle}
 use Rattle.sk_copy.specs.declared.copy_number.TheConstants as which
 use Rattle.sk_copy.specs.Order.{put_in, in_order, by_handle}
-use Rattle.sk_copy.specs.Extended.{extended, has_copy, number_in}
+use Rattle.sk_copy.specs.Extended.{extended, has_copy, number_in, numbers_in}
 use Rattle.sk_copy.specs.Wanted.{Move, ends_by, extruded_as, is_extruded, is_linked, is_translated, moves_by, translated_as, wanted, wanted_as}
 use Rattle.sk_copy.specs.Copies.{Copies, NumberOf, copies, copy_of, end_copies, end_faces, extrude, extrude_as, face_copy, first_point, linked_copy, linked_kind, made_by, moved_copy, numbers_if, or_past, over_list, plane_entities, side_face, side_line, translate_as, translated_by}
-use Rattle.sk_copy.specs.Laws.{HaveHandles, IsList, copy_cmp}
+use Rattle.sk_copy.specs.Laws.{HaveHandles, IsItem, IsList, copy_cmp}
 use Rattle.sk_copy.proofs.Apart.{apart}
 use Rattle.sk_copy.proofs.Extended.{AllHave, all_have, stays_list}
 use Rattle.sk_copy.proofs.Rising.{AllLess, is_less, less_is, ties, wanted_rises}
@@ -128,15 +129,15 @@ module _ {s : ℕ} (g : Group s) (number : NumberOf) where
   abbrev linked_key : Entity s → CopyKey
   linked_key e = (e.id.0, which.LINKED)
 
-  abbrev copied : Entity s → Numbering s → Entity s
-  copied e q = copy_of g number which.LINKED (linked_kind e.kind) q e
+  abbrev linked_one : Entity s → Numbering s → Entity s
+  linked_one e q = copy_of g number which.LINKED (linked_kind e.kind) q e
 
   one_linked : (e : Entity s) (o : Option (Numbering s)) (more : Option (List (Entity s))) (ms : List (Entity s)) (es : List (Entity s)) → numbers_if g.scale e ≡ o → cons_if (linked_copy g number e) more ≡ Some ms →
       ((ns : List (Entity s)) → more ≡ Some ns → map entity_handle ns ≡ map item (map linked_key es)) → map entity_handle ms ≡ map item (map linked_key (e ∷ es))
   one_linked e None more ms es p h rest = (let no : None ≡ Some ms = rw p at h in cc no)
   one_linked e (Some q) None ms es p h rest = (let no : None ≡ Some ms = rw p at h in cc no)
   one_linked e (Some q) (Some ns) ms es p h rest =
-      let is : copied e q ∷ ns ≡ ms = (let some : Some (copied e q ∷ ns) ≡ Some ms = rw p at h in cc some) in
+      let is : linked_one e q ∷ ns ≡ ms = (let some : Some (linked_one e q ∷ ns) ≡ Some ms = rw p at h in cc some) in
       ap (map entity_handle) (sym is) ∙ ap (λ ks. item (linked_key e) ∷ ks) (rest ns refl)
 
   linked_handles : (es ms : List (Entity s)) → each_some (linked_copy g number) es ≡ Some ms → map entity_handle ms ≡ map item (map linked_key es)
@@ -227,3 +228,62 @@ pub made_rise : {s : ℕ} (g : Group s) (list : List RemapEntry) (es : List (Ent
 made_rise g list es c few l r h e = parts g list es c (Rise c.entities) e (λ longer ms extends made is.
     subst Rise is (in_order_rises entity_handle ms
     (by_kind g longer (stays_list (wanted g es) list longer extends l) es g.kind ms (all_have (wanted g es) list longer extends) (wanted_rises g es few r h) made)))
+
+-- ---- all are items of the group
+
+module _ {X : Type 0} (P : X → Type 0) (before : X → X → Bool) where
+  all_put : (x : X) (ys : List X) → P x → AllByRecursion P ys → AllByRecursion P (put_in before x ys)
+  all_put x [] p h = (p, tt)
+  all_put x (y ∷ ys) p h = elim (cases_Bool (before x y)) [
+    | inl t ↦ rw t ((p, h))
+    | inr f ↦ rw f ((h.0, all_put x ys p h.1))
+  ]
+
+  all_onto : (ys xs : List X) → AllByRecursion P ys → AllByRecursion P xs → AllByRecursion P (fold (λ zs x. put_in before x zs) ys xs)
+  all_onto ys [] h k = h
+  all_onto ys (x ∷ xs) h k = all_onto (put_in before x ys) xs (all_put x ys k.0 h) k.1
+
+  all_in_order : (xs : List X) → AllByRecursion P xs → AllByRecursion P (in_order before xs)
+  unfolding in_order
+  all_in_order xs h = all_onto [] xs tt h
+
+small_if : (t : Bool) (m n : ℕ) → m ≤ 65535 → n ≤ 65535 → (if t then m else n) ≤ 65535
+small_if true m n a b = a
+small_if false m n a b = b
+
+small_number : (c : CopyKey) (n : ℕ) (es : List RemapEntry) → n ≤ 65535 → AllByRecursion (λ m. m ≤ 65535) (numbers_in es) → fold (λ (n : ℕ) (e : RemapEntry). if same_copy (copied e) c then e.number else n) n es ≤ 65535
+small_number c n [] l h = l
+small_number c n (e ∷ es) l h = small_number c (if same_copy (copied e) c then e.number else n) es (small_if (same_copy (copied e) c) e.number n h.0 l) h.1
+
+module _ {s : ℕ} (g : Group s) (list : List RemapEntry) (l : IsList list) (es : List (Entity s)) where
+  abbrev InGroup : ℕ → Type 0
+  InGroup k = (item_of_group g.id.0 0 ≤ k) × (k ≤ item_of_group g.id.0 65535)
+
+  all_items : (cs : List CopyKey) → AllByRecursion InGroup (map (handle_of g list l) cs)
+  all_items [] = tt
+  all_items (c ∷ cs) = (let few : number_in list c ≤ 65535 = small_number c 0 list (omega arith) (recursion_from_All (λ m. m ≤ 65535) (numbers_in list) l.most) in (omega arith, omega (arith, few)), all_items cs)
+
+  end_items : (o : Option EntityId) → AllByRecursion InGroup (map entity_handle (end_faces g (number_in list) o ++ flat_map (extrude_as g (number_in list)) es))
+  end_items None = rw (flat_handles g (number_in list) (extrude_as g (number_in list)) extruded_as (λ e. extruded_handles g (number_in list) e (is_extruded e) (is_point e.kind) (e.kind == entity_kind.LINE)) es) (all_items (flat_map extruded_as es))
+  end_items (Some p) = rw (flat_handles g (number_in list) (extrude_as g (number_in list)) extruded_as (λ e. extruded_handles g (number_in list) e (is_extruded e) (is_point e.kind) (e.kind == entity_kind.LINE)) es) (all_items (ends_by Extrude ++ flat_map extruded_as es))
+
+  items_by : (k : GroupKind) (ms : List (Entity s)) → made_by k g (number_in list) es ≡ Some ms → AllByRecursion InGroup (map entity_handle ms)
+  items_by Space ms h = (let e : [] ≡ ms = cc h in subst (λ (xs : List (Entity s)). AllByRecursion InGroup (map entity_handle xs)) e tt)
+  items_by Plane ms h = (let e : plane_entities g ≡ ms = cc h in subst (λ (xs : List (Entity s)). AllByRecursion InGroup (map entity_handle xs)) e ((omega arith, omega arith), ((omega arith, omega arith), ((omega arith, omega arith), tt))))
+  items_by Extrude ms h = (let e : extrude g (number_in list) es ≡ ms = cc h in subst (λ (xs : List (Entity s)). AllByRecursion InGroup (map entity_handle xs)) e (end_items (first_point es)))
+  items_by Translate ms h =
+      let e : flat_map (translate_as g (number_in list)) es ≡ ms = cc h in
+      subst (λ (xs : List (Entity s)). AllByRecursion InGroup (map entity_handle xs)) e
+      (rw (flat_handles g (number_in list) (translate_as g (number_in list)) (translated_as (moves_by Translate g)) (λ x. translated_if g (number_in list) x (moves_by Translate g) (is_translated x)) es)
+      (all_items (flat_map (translated_as (moves_by Translate g)) es)))
+  items_by Linked ms h = rw (linked_handles g (number_in list) (filter (is_linked es) es) ms h) (all_items (map (linked_key g (number_in list)) (filter (is_linked es) es)))
+
+  from_handles : (ms : List (Entity s)) → AllByRecursion InGroup (map entity_handle ms) → AllByRecursion (IsItem g) ms
+  from_handles [] h = tt
+  from_handles (m ∷ ms) h = (h.0, from_handles ms h.1)
+
+pub made_items : {s : ℕ} (g : Group s) (list : List RemapEntry) (es : List (Entity s)) (c : Copies s) → IsList list → copies g list es ≡ Ok c → All (IsItem g) c.entities
+made_items g list es c l e = parts g list es c (All (IsItem g) c.entities) e (λ longer ms extends made is.
+    subst (All (IsItem g)) is (All-from_recursion (IsItem g) (by_handle ms)
+    (all_in_order (IsItem g) (λ d e. nat_lt d.id.0 e.id.0) ms (from_handles g longer (stays_list (wanted g es) list longer extends l) es ms
+    (items_by g longer (stays_list (wanted g es) list longer extends l) es g.kind ms made)))))

@@ -9,6 +9,7 @@ use Rattle.sk_types.specs.declared.group.Group.{Group}
 use Rattle.sk_types.specs.declared.group.GroupKind.{GroupKind}
 use Rattle.sk_types.specs.declared.group.GroupKind.TheVariants.{Space, Plane, Extrude, Translate, Linked}
 use Rattle.sk_types.specs.declared.group.RemapEntry.{RemapEntry}
+use Rattle.sk_types.specs.Handles.{item_of_group}
 use Rattle.sk_types.specs.Lookups.{Rise}
 use Rattle.sk_types.specs.Copies.{CopyKey, copies_in, same_copy}
 use Rattle.sk_copy.specs.Wanted.{wanted}
@@ -53,6 +54,11 @@ HaveHandles Linked es = ⊤
 pub record WantedLaw : Type 0 where
   pub rise : {s : ℕ} (g : Group s) (es : List (Entity s)) → g.copies ≤ 999 → Rise es → HaveHandles g.kind es → IsStrictlySortedBy copy_cmp (wanted g es)
 
--- What is made by a list in which numbers and copies stand apart has handles that rise, each stands once.
+-- one of the group's items
+abbrev pub IsItem : {s : ℕ} → Group s → Entity s → Type 0
+IsItem g e = (item_of_group g.id.0 0 ≤ e.id.0) × (e.id.0 ≤ item_of_group g.id.0 65535)
+
+-- What is made by a list in which numbers and copies stand apart has handles that rise, each stands once; all are items of the group.
 pub record MadeLaw : Type 0 where
   pub rise : {s : ℕ} (g : Group s) (list : List RemapEntry) (es : List (Entity s)) (c : Copies s) → g.copies ≤ 999 → IsList list → Rise es → HaveHandles g.kind es → copies g list es ≡ Ok c → Rise c.entities
+  pub items : {s : ℕ} (g : Group s) (list : List RemapEntry) (es : List (Entity s)) (c : Copies s) → IsList list → copies g list es ≡ Ok c → All (IsItem g) c.entities

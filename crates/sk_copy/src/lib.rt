@@ -32,7 +32,8 @@ pub fn law_wanted()
     ensures { WantedLaw }
 {}
 
-/// The entities that a group makes by a list in which numbers and copies stand apart have distinct handles, in rising order.
+/// The entities that a group makes by a list in which numbers and copies stand apart are items of the group with distinct
+/// handles, in rising order.
 pub fn law_made()
     ensures { MadeLaw }
 {}
