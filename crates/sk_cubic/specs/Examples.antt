@@ -55,13 +55,18 @@ pub line-rows :
 unfolding cubic_formula parallel cross minor
 line-rows = (refl, refl)
 
--- two tangents, and a spoke and a tangent
+-- two tangents, two spokes, and a spoke and a tangent
 pub curve-rows :
     (values kind.CURVE_CURVE_TANGENT (of_curves (tangent (in_plane_at 3 1)) (tangent (in_plane_at 2 5))) ≡ (pos 13 ∷ []) ∷ [])
+    × (values kind.CURVE_CURVE_TANGENT (of_curves (spoke (in_plane_at 3 1)) (spoke (in_plane_at 2 5))) ≡ (pos 13 ∷ []) ∷ [])
     × (values kind.CURVE_CURVE_TANGENT (of_curves (spoke (in_plane_at 3 1)) (tangent (in_plane_at 2 5))) ≡ (pos 11 ∷ []) ∷ [])
     × (values kind.CURVE_CURVE_TANGENT (of_curves (tangent (in_plane_at 3 1)) (spoke (in_plane_at 2 5))) ≡ (pos 11 ∷ []) ∷ [])
 unfolding cubic_formula parallel perpendicular dot minor
-curve-rows = (refl, refl, refl)
+curve-rows = (refl, refl, refl, refl)
+
+pub other-kinds : values kind.ANGLE (of_curves (tangent (in_plane_at 3 1)) (tangent (in_plane_at 2 5))) ≡ []
+unfolding cubic_formula
+other-kinds = refl
 
 abbrev control : List (List ℤ)
 control =
