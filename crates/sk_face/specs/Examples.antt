@@ -67,3 +67,7 @@ pub in_face-rows :
     × (values along_line (constraint_of kind.POINT_ON_FACE (pos 5)) ≡ ([], (less 66 ∷ []) ∷ []))
 unfolding face_formula in_face face_normal perpendicular vector_difference dot cross minor
 in_face-rows = (refl, refl)
+
+pub other-kinds : values along_line (constraint_of kind.ANGLE (pos 5)) ≡ ([], [])
+unfolding face_formula
+other-kinds = refl
