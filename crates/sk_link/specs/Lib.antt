@@ -1,0 +1,10 @@
+pub mod Faults
+pub mod Chain
+pub mod Lent
+pub mod Keys
+pub mod Fields
+pub mod Stored
+pub mod Part
+pub mod Replies
+pub mod Parts
+pub mod Examples
