@@ -10,3 +10,5 @@ pub mod ParamWritten
 pub mod HandleSteps
 pub mod Outcomes
 pub mod KeyLines
+pub mod PairLines
+pub mod EntityLines

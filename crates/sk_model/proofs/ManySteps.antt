@@ -9,20 +9,17 @@ use Rattle.std.proofs.lemmas.List.{append-nil, map-append, take_more, length-map
 use Rattle.std.proofs.lemmas.List.Elements.{All-nil, All-cons, All-push, All-filter, filter-append, filter_map-append}
 use Rattle.std.proofs.lemmas.List.Folds.{list_any-append}
 use Rattle.std.proofs.Math.Seq.{take-append_seam}
-use Rattle.std.proofs.lemmas.Grind.{flat_map-append}
 use Rattle.std.proofs.lemmas.Map.Keys.{IsDistinct-head, IsDistinct-tail, IsDistinct-cons}
 use Rattle.sk_num.specs.Limit.{IsInLimit}
 use Rattle.sk_num.specs.Scale.{IsScale}
 use Rattle.sk_num.specs.Spelling.{quantity_text}
 use Rattle.sk_num.specs.SpellingLaws.{quantity-read_back}
 use Rattle.sk_types.specs.declared.entity.ParamValue.{ParamValue}
-use Rattle.sk_text.specs.Lines.{line_bytes, joined}
 use Rattle.sk_types.specs.Lookups.{value_handle, value_of}
 use Rattle.sk_records.specs.declared.kinds.Kind.TheVariants as kind
 use Rattle.sk_records.specs.Blocks.{Block, Rec, records, with_tails, add_records}
 use Rattle.sk_records.specs.ChangeLists.{Change, KindChanges, SetValue, change_place, all_changed}
-use Rattle.sk_records.specs.Reading.{block_lines}
-use Rattle.sk_records.specs.Written.{lines_of, bytes_of}
+use Rattle.sk_records.specs.Written.{bytes_of}
 use Rattle.sk_records.specs.Given.{AreRecords, given_records}
 use Rattle.sk_model.specs.declared.keys.Key.TheVariants as key
 use Rattle.sk_model.specs.Keys.{key_bytes}
@@ -33,21 +30,14 @@ use Rattle.sk_model.specs.TypingLaws.Lookups.{value_found, value_missing, place_
 use Rattle.sk_model.specs.TypingLaws.ParamSet.{new_unseen}
 use Rattle.sk_model.specs.TypingLaws.ParamTexts.{records_given, records_are}
 use Rattle.sk_model.specs.TypingLaws.ManyParams.{in_one_list, list_in_steps}
+use Rattle.sk_model.proofs.PairLines.{records-append}
 
 -- ---- what is written of several records
-
-bytes-append : (cs bs : List Block) → bytes_of (cs ++ bs) ≡ bytes_of cs ++ bytes_of bs
-bytes-append cs bs = ap joined (flat_map-append block_lines cs bs) ∙ flat_map-append line_bytes (lines_of cs) (lines_of bs)
-
-tails-append : (rs qs : List Rec) → with_tails (rs ++ qs) ≡ with_tails rs ++ with_tails qs
-tails-append [] qs = refl
-tails-append (r ∷ rs) qs = rw (tails-append rs qs) refl
 
 written-append : {s : ℕ} (ps qs : List (ParamValue s)) → bytes_of (with_tails (map new_record (ps ++ qs))) ≡ bytes_of (with_tails (map new_record ps)) ++ bytes_of (with_tails (map new_record qs))
 written-append ps qs =
     ap (λ (rs : List Rec). bytes_of (with_tails rs)) (map-append new_record ps qs)
-    ∙ ap bytes_of (tails-append (map new_record ps) (map new_record qs))
-    ∙ bytes-append (with_tails (map new_record ps)) (with_tails (map new_record qs))
+    ∙ records-append (map new_record ps) (map new_record qs)
 
 module _ {s : ℕ} (ps qs : List (ParamValue s)) (i : ℕ) (d : ParamValue s) (below : i < length qs) (q : ParamValue s) (item : q ≡ get_or qs i d) where
   next : take (i + 1) qs ≡ take i qs ++ q ∷ []

@@ -7,17 +7,22 @@ use Rattle.std.proofs.lemmas.List.Elements.{All-nil, All-cons, All-filter}
 use Rattle.sk_num.specs.Limit.{IsInLimit}
 use Rattle.sk_num.specs.Scale.{IsScale}
 use Rattle.sk_types.specs.declared.entity.ParamValue.{ParamValue}
+use Rattle.sk_types.specs.declared.entity.Entity.{Entity}
+use Rattle.sk_types.specs.declared.entity.Act.{Act}
 use Rattle.sk_types.specs.declared.group.Group.{Group}
 use Rattle.sk_types.specs.declared.group.RemapEntry.{RemapEntry}
 use Rattle.sk_types.specs.Lookups.{value_handle, value_of}
 use Rattle.sk_records.specs.declared.kinds.Kind.TheVariants as kind
-use Rattle.sk_records.specs.Blocks.{Block, records}
+use Rattle.sk_records.specs.Blocks.{Block, Rec, records, with_tails, made_anew}
+use Rattle.sk_records.specs.Written.{bytes_of}
+use Rattle.sk_records.specs.Given.{given_records}
 use Rattle.sk_model.specs.Chain.{seen_in}
 use Rattle.sk_model.specs.Groups.{group_of}
 use Rattle.sk_model.specs.Typed.{Typed, typed, group_handle}
 use Rattle.sk_model.specs.declared.remap.GroupList.{GroupList}
 use Rattle.sk_model.specs.Changes.{with_param, with_params, params_set, with_remap, remap_set, grew, grown, list_handle, with_lists, lists_set}
-use Rattle.sk_model.specs.Settable.{IsSettable, IsRemapList, IsGroupList, HasSources}
+use Rattle.sk_model.specs.EntityRecords.{entity_records}
+use Rattle.sk_model.specs.Settable.{IsSettable, IsRemapList, IsGroupList, HasSources, IsWritable}
 use Rattle.sk_model.specs.TypingLaws.{typing_law, set_lists_law}
 use Rattle.sk_model.specs.TypingLaws.Lookups.{place_below}
 use Rattle.sk_model.specs.TypingLaws.ListSteps.{all_length}
@@ -25,6 +30,8 @@ use Rattle.sk_model.specs.TypingLaws.TypedParts.{parts_of}
 use Rattle.sk_model.specs.TypingLaws.ParamSet.{value_after}
 use Rattle.sk_model.specs.TypingLaws.RemapSet.{handles_kept, list_typed}
 use Rattle.sk_model.specs.TypingLaws.ManyLists.{list_written}
+use Rattle.sk_model.specs.TypingLaws.EntityTexts.{all_entities, records_are}
+use Rattle.sk_model.proofs.Outcomes.{on_ok}
 use Rattle.sk_model.proofs.ListsSteps.{many_handles}
 
 pub groups_handles : {s : ℕ} (id : ℕ) (list : List RemapEntry) (gs hs : List (Group s)) → hs ≡ with_remap id list gs → map group_handle hs ≡ map group_handle gs
@@ -51,6 +58,12 @@ one_distinct id = (tt, tt)
 pub one_some : {s : ℕ} (q : ParamValue s) → q.id.0 ≢ 0 → All (λ (p : ParamValue s). p.id.0 ≢ 0) (q ∷ [])
 one_some {s} q some = All-cons (λ (p : ParamValue s). p.id.0 ≢ 0) q [] some (All-nil (λ (p : ParamValue s). p.id.0 ≢ 0))
 
+-- the blocks where entity records are made anew
+pub anew_blocks : {s : ℕ} {E : Type 0} (r : Result (Unit {0}) E) (bs cs : List Block) → IsScale s → (acts : List (Act s)) (es : List (Entity s)) → All (IsWritable acts) es → (given text : List ℕ) → given ≡ text → text ≡ bytes_of (with_tails (entity_records acts es)) →
+    OnOk r (cs ≡ made_anew kind.Entity (given_records given) bs) → OnOk r (cs ≡ made_anew kind.Entity (entity_records acts es) bs)
+anew_blocks r bs cs scale acts es all given text lent is book =
+    on_ok r (λ (e : cs ≡ made_anew kind.Entity (given_records given) bs). e ∙ ap (λ (rs : List Rec). made_anew kind.Entity rs bs) (ap given_records (lent ∙ is) ∙ records_are scale acts es all)) book
+
 -- ---- what is typed
 
 module _ {s : ℕ} {E : Type 0} (r : Result (Unit {0}) E) (bs cs : List Block) (l : Typed s) (e : typed s bs ≡ Ok l) where
@@ -64,6 +77,13 @@ module _ {s : ℕ} {E : Type 0} (r : Result (Unit {0}) E) (bs cs : List Block) (
       by_answer : (t : Result (Unit {0}) E) → t ≡ t → OnOk t (HasSources list) → OnOk t (cs ≡ remap_set id list l.groups bs) → OnErr t (cs ≡ bs) → OnOk t (hs ≡ with_remap id list l.groups) → OnErr t (hs ≡ l.groups) → typed s cs ≡ Ok (record l { groups = hs })
       by_answer (Ok u) o so b k gr sa = ap (typed s) b ∙ list_typed s id list bs l e (list_written x is so).reads is ∙ ap (λ (g : List (Group s)). Ok (record l { groups = g })) (sym gr)
       by_answer (Err u) o so b k gr sa = ap (typed s) k ∙ e ∙ ap (λ (g : List (Group s)). Ok (record l { groups = g })) (sym sa)
+
+  pub anew_typed_after : (acts : List (Act s)) (es : List (Entity s)) → OnOk r (cs ≡ made_anew kind.Entity (entity_records acts es) bs) → OnErr r (cs ≡ bs) → typed s cs ≡ Ok l
+  anew_typed_after acts es book kept = by_answer r book kept
+    where
+      by_answer : (t : Result (Unit {0}) E) → OnOk t (cs ≡ made_anew kind.Entity (entity_records acts es) bs) → OnErr t (cs ≡ bs) → typed s cs ≡ Ok l
+      by_answer (Ok u) b k = ap (typed s) b ∙ typing_law.entities s (entity_records acts es) bs (all_entities acts es) ∙ e
+      by_answer (Err u) b k = ap (typed s) k ∙ e
 
   pub lists_typed_after : (xs : List GroupList) (hs : List (Group s)) → All (IsGroupList l.groups) xs → IsDistinct nat_eq (map list_handle xs) → OnOk r (All (λ (x : GroupList). HasSources x.entries) (grown l.groups xs)) →
       OnOk r (cs ≡ lists_set xs l.groups bs) → OnErr r (cs ≡ bs) → OnOk r (hs ≡ with_lists xs l.groups) → OnErr r (hs ≡ l.groups) → typed s cs ≡ Ok (record l { groups = hs })

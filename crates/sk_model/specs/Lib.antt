@@ -11,7 +11,9 @@ pub mod Typed
 pub mod Listings
 pub mod Models
 pub mod Changes
+pub mod EntityRecords
 pub mod Settable
 pub mod Checked
 pub mod WrittenLines
 pub mod TypingLaws
+pub mod Examples

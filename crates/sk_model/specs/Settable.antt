@@ -1,17 +1,20 @@
 -- What may be set.
-use Rattle.std.specs.Prelude.{◌≡◌, ◌≢◌, ◌<◌, ◌^◌, ℕ, List, map, true, Some, Ok}
+use Rattle.std.specs.Prelude.{◌≡◌, ◌≢◌, ◌<◌, ◌^◌, ℕ, ℤ, List, map, length, true, Option, Some, None, Ok}
 use Rattle.std.specs.List.{All}
 use Rattle.sk_num.specs.Limit.{IsInLimit}
 use Rattle.sk_num.specs.Spelling.{quantity_of, quantity_text}
 use Rattle.sk_types.specs.declared.entity.ParamValue.{ParamValue}
+use Rattle.sk_types.specs.declared.entity.Entity.{Entity}
+use Rattle.sk_types.specs.declared.entity.Act.{Act}
 use Rattle.sk_types.specs.declared.group.Group.{Group}
 use Rattle.sk_types.specs.declared.group.RemapEntry.{RemapEntry}
-use Rattle.sk_types.specs.Lookups.{value_of}
+use Rattle.sk_types.specs.Lookups.{value_of, act_at}
 use Rattle.sk_model.specs.declared.remap.GroupList.{GroupList}
 use Rattle.sk_model.specs.Chain.{seen_in}
 use Rattle.sk_model.specs.Remap.{remap_of}
 use Rattle.sk_model.specs.Typed.{group_handle}
 use Rattle.sk_model.specs.Changes.{numbers_of}
+use Rattle.sk_model.specs.EntityRecords.{Keyed, act_numbers}
 
 -- a parameter: its handle isn't 0 and has at most eight hexadecimal digits, and its value is a grid number
 pub record IsSettable {s : ℕ} (p : ParamValue s) : Type 0 where
@@ -39,3 +42,17 @@ pub record IsGroupList {s : ℕ} (gs : List (Group s)) (x : GroupList) : Type 0 
 -- the handles of the entities that are copied have at most eight hexadecimal digits
 abbrev pub HasSources : List RemapEntry → Type 0
 HasSources es = All (λ (e : RemapEntry). e.source.0 < 2 ^ 32) es
+
+-- numbers that are grid numbers
+abbrev pub AreFit : Keyed → Type 0
+AreFit ks = All (λ (k : List ℕ × ℤ). IsInLimit k.1) ks
+
+abbrev pub IsActFit : {s : ℕ} → ℕ → Option (Act s) → Type 0
+IsActFit n None = Unit {0}
+IsActFit n (Some a) = AreFit (act_numbers n a.values)
+
+-- an entity, and the numbers that its record has
+pub record IsWritable {s : ℕ} (acts : List (Act s)) (e : Entity s) : Type 0 where
+  pub kind : e.kind < 2 ^ 16
+  pub points : length e.points < 2 ^ 64
+  pub numbers : IsActFit e.kind (act_at e.id.0 acts)

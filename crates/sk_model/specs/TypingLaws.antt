@@ -13,26 +13,32 @@ pub mod ParamSet
 pub mod RemapSet
 pub mod ManyParams
 pub mod ManyLists
+pub mod EntityTexts
 pub mod Checked
-use Rattle.std.specs.Prelude.{◌≡◌, ℕ, nat_eq, List, map, Option, false, Ok}
+use Rattle.std.specs.Prelude.{◌≡◌, ℕ, nat_eq, List, ◌∷◌, map, Option, false, Ok}
 use Rattle.std.specs.Option.{option_or}
 use Rattle.std.specs.List.{All, IsDistinct}
 use Rattle.sk_num.specs.Scale.{IsScale}
 use Rattle.sk_types.specs.declared.group.Group.{Group}
 use Rattle.sk_types.specs.declared.entity.ParamValue.{ParamValue}
+use Rattle.sk_types.specs.declared.entity.Entity.{Entity}
+use Rattle.sk_types.specs.declared.entity.Act.{Act}
 use Rattle.sk_types.specs.Lookups.{value_handle, value_of}
 use Rattle.sk_records.specs.declared.kinds.Kind.TheVariants as kind
 use Rattle.sk_records.specs.Blocks.{Block, Rec, AllOf, records, add_records, made_anew}
 use Rattle.sk_records.specs.ChangeLists.{all_changed}
-use Rattle.sk_records.specs.Written.{bare, IsText}
+use Rattle.sk_records.specs.Written.{bare, numbered, bytes_of, IsText}
+use Rattle.sk_records.specs.Laws.{IsGiven}
 use Rattle.sk_model.specs.declared.remap.GroupList.{GroupList}
 use Rattle.sk_model.specs.Typed.{Typed, typed, group_handle}
 use Rattle.sk_model.specs.Changes.{new_record, with_params, params_set, absent, value_changes, grew, with_lists, lists_set, list_handle, grown, list_changes}
-use Rattle.sk_model.specs.Settable.{IsSettable, IsStored, IsRemapList, IsGroupList, HasSources}
+use Rattle.sk_model.specs.EntityRecords.{entity_records}
+use Rattle.sk_model.specs.Settable.{IsSettable, IsStored, IsRemapList, IsGroupList, HasSources, IsWritable}
 use Rattle.sk_model.specs.Checked.{AreChecked}
 use Rattle.sk_model.specs.TypingLaws.TypedParts.{typed_alike, entities_unseen, param_count}
 use Rattle.sk_model.specs.TypingLaws.ManyParams.{value_many, in_one_list, all_stored, params_same, params_blocks, params_typed, params_text}
 use Rattle.sk_model.specs.TypingLaws.ManyLists.{handles_many, lists_typed, lists_text, none_grew, lists_same, blocks_same, lists_in_one_pass, grown_lists, grown_blocks}
+use Rattle.sk_model.specs.TypingLaws.EntityTexts.{all_entities, entities_given, entities_text, made_twice, made_again}
 use Rattle.sk_model.specs.TypingLaws.Checked.{typed_checked}
 
 -- Lines that are numbered otherwise are typed the same; typing doesn't look at entity records; where parameters or remap lists
@@ -53,13 +59,18 @@ typing_law = record {
   leaves = typed_checked;
 }
 
--- Setting parameters or remap lists in a text gives a text.
+-- Setting parameters or remap lists in a text, or making its entity records anew, gives a text.
 pub record SetTextsLaw : Type 0 where
   pub params : (s : ℕ) → IsScale s → (qs ps : List (ParamValue s)) (bs : List Block) → All IsSettable qs → IsText bs → IsText (params_set qs ps bs)
   pub lists : (s : ℕ) (xs : List GroupList) (gs : List (Group s)) (bs : List Block) → All (λ (x : GroupList). IsRemapList x.group.0 x.entries) xs → All (λ (x : GroupList). HasSources x.entries) xs → IsText bs → IsText (lists_set xs gs bs)
+  pub entities : (s : ℕ) → IsScale s → (acts : List (Act s)) (es : List (Entity s)) (bs : List Block) → All (IsWritable acts) es → IsText bs → IsText (made_anew kind.Entity (entity_records acts es) bs)
 
 pub set_texts_law : SetTextsLaw
-set_texts_law = record { params = λ s scale. params_text scale; lists = λ s. lists_text }
+set_texts_law = record {
+  params = λ s scale. params_text scale;
+  lists = λ s. lists_text;
+  entities = λ s scale acts es bs all is. entities_text scale acts es all bs is;
+}
 
 -- Parameters that are set once each have their values, and the others keep theirs; those that stand are changed in their places, and
 -- the others are added in one list. Where each stands with its value, nothing changes.
@@ -98,4 +109,20 @@ set_lists_law = record {
   grown_text = λ s. grown_blocks;
   same = λ s. lists_same;
   same_text = λ s. blocks_same;
+}
+
+-- The records of entities may be given to a text. Made anew once more they change nothing, and in the text that is read again they
+-- give the same bytes.
+pub record SetEntitiesLaw : Type 0 where
+  pub entities : (s : ℕ) (acts : List (Act s)) (es : List (Entity s)) → AllOf kind.Entity (entity_records acts es)
+  pub given : (s : ℕ) → IsScale s → (acts : List (Act s)) (es : List (Entity s)) → All (IsWritable acts) es → IsGiven kind.Entity (entity_records acts es)
+  pub twice : (s : ℕ) (acts : List (Act s)) (e : Entity s) (es : List (Entity s)) (bs : List Block) → made_anew kind.Entity (entity_records acts (e ∷ es)) (made_anew kind.Entity (entity_records acts (e ∷ es)) bs) ≡ made_anew kind.Entity (entity_records acts (e ∷ es)) bs
+  pub again : (s : ℕ) (acts : List (Act s)) (e : Entity s) (es : List (Entity s)) (bs : List Block) → bytes_of (made_anew kind.Entity (entity_records acts (e ∷ es)) (numbered 1 (made_anew kind.Entity (entity_records acts (e ∷ es)) bs))) ≡ bytes_of (made_anew kind.Entity (entity_records acts (e ∷ es)) bs)
+
+pub set_entities_law : SetEntitiesLaw
+set_entities_law = record {
+  entities = λ s. all_entities;
+  given = λ s scale. entities_given scale;
+  twice = λ s. made_twice;
+  again = λ s. made_again;
 }

@@ -1,15 +1,21 @@
 -- Lines that a change writes.
 use Rattle.std.specs.Prelude.{◌≡◌, ℕ, ℤ, List, [], ◌∷◌, map, true, false, None, Ok}
-use Rattle.sk_text.specs.Lines.{lines_in, IsEnded}
+use Rattle.std.specs.List.{flat_map}
+use Rattle.sk_text.specs.Lines.{line_bytes, lines_in, IsEnded}
 use Rattle.sk_num.specs.Numerals.{padded}
 use Rattle.sk_num.specs.Spelling.{handle_of, quantity_of, quantity_text}
 use Rattle.sk_types.specs.declared.group.RemapEntry.{RemapEntry}
 use Rattle.sk_records.specs.declared.kinds.Kind.TheVariants as kind
 use Rattle.sk_records.specs.Classes.{is_opening, is_shut, is_entry}
+use Rattle.sk_records.specs.Rows.{value_body}
 use Rattle.sk_records.specs.MapRows.{entry_lines}
 use Rattle.sk_records.specs.Given.{AllEnded, is_whole_list, list_row, IsOneRecord, given_records}
 use Rattle.sk_model.specs.Remap.{entry_numbers, all_numbers}
 use Rattle.sk_model.specs.Changes.{fed_line, param_record, numbers_of, entry_text, list_lines}
+
+-- the bytes of lines `key=value`, each with a line feed
+unfoldable pub pair_bytes : List (List ℕ × List ℕ) → List ℕ
+pair_bytes ps = flat_map (λ (p : List ℕ × List ℕ). line_bytes (fed_line (value_body p.0 p.1))) ps
 
 -- the bytes are the record that is added for a parameter, and are read as its handle and its value
 pub record IsParamText (s id : ℕ) (v : ℤ) (lines : List ℕ) : Type 0 where

@@ -28,8 +28,8 @@ use sk_records::{Book, ChangeList, Kind, RecId};
 use sk_types::{Group, ParamValue, RemapEntry};
 use std::alloc::Global;
 
-// Whether two quantities are the same.
-fn is_same<const S: u32>(a: Grid<S>, b: Grid<S>) -> bool
+/// Whether two quantities are the same.
+pub(crate) fn is_same<const S: u32>(a: Grid<S>, b: Grid<S>) -> bool
     ensures value { result ≡ int_eq a.entry b.entry }
     ensures fits { IsInLimit b.entry }
 {

@@ -4,6 +4,7 @@
 mod changes;
 mod constraints;
 mod copying;
+mod entity_records;
 mod faults;
 mod fields;
 mod group_keys;

@@ -4,11 +4,14 @@ ghost use Rattle.std.specs.Prelude.{◌≡◌, ◌≢◌, ◌++◌, ◌==◌, �
 ghost use Rattle.std.specs.List.{All, IsDistinct};
 ghost use Rattle.sk_num.specs.Scale.{IsScale};
 ghost use Rattle.sk_types.specs.declared.entity.ParamValue.{ParamValue as TypedParam};
-ghost use Rattle.sk_types.specs.Lookups.{value_handle, value_of};
+ghost use Rattle.sk_types.specs.Lookups.{value_handle, value_of, act_handle, RiseBy};
+ghost use Rattle.sk_records.specs.declared.kinds.Kind.TheVariants.{Entity};
+ghost use Rattle.sk_records.specs.Blocks.{made_anew};
 ghost use Rattle.sk_records.specs.Written.{bytes_of};
 ghost use Rattle.sk_model.specs.Chain.{IsAnswer, seen_in};
 ghost use Rattle.sk_model.specs.Typed.{typed, group_handle};
 ghost use Rattle.sk_model.specs.Changes.{param_set, with_param, params_set, with_params, remap_set, with_remap, list_handle, lists_set, with_lists};
+ghost use Rattle.sk_model.specs.EntityRecords.{entity_records};
 ghost use Rattle.sk_model.specs.Settable.{IsRemapList, IsGroupList};
 ghost use Rattle.sk_model.specs.Checked.{AreChecked};
 ghost use Rattle.sk_model.specs.Models.{lists_of, IsTyped};
@@ -16,6 +19,7 @@ ghost use Rattle.sk_model.specs.Models.{lists_of, IsTyped};
 use crate::NoMemory;
 use crate::changes::{put_list, put_lists, put_params};
 use crate::copying::copy_groups;
+use crate::entity_records::entity_text;
 use crate::faults::ModelFault;
 use crate::listed::{Listed, type_all};
 use crate::remap::GroupList;
@@ -23,7 +27,9 @@ use crate::whole::whole_fault;
 use indexmap::IndexSet;
 use sk_num::Grid;
 use sk_records::Book;
-use sk_types::{Constraint, Group, GroupId, ParamId, ParamValue, RemapEntry, Request};
+use sk_types::{
+    Constraint, Group, GroupId, Numbers, Outline, ParamId, ParamValue, RemapEntry, Request,
+};
 use std::alloc::Global;
 
 /// The typed model of a book.
@@ -217,6 +223,32 @@ impl<const S: u32> Model<S> {
         ensures err { OnErr result (self.new ≡ self.old) }
     {
         put_lists(&mut self.book, &mut self.groups, &self.group_handles, lists)
+    }
+
+    /// Makes the entity records anew from the model's outline and its numbers: one for each entity, in the order of the
+    /// outline. They stand where the first of those before stood, or, where there was none, where new records go. At an
+    /// `Err` the model is as it was.
+    ///
+    /// A record has a line for the handle, the kind and the construction flag; for each point, the normal, the distance and
+    /// the workplane that the entity names; for each number at which it stands; and one that says that it is seen. A line
+    /// whose value is 0 is left out, but for the first three. Typing doesn't look at these records.
+    pub fn set_entities(
+        &mut self,
+        outline: &Outline<S>,
+        numbers: &Numbers<S>,
+    ) -> Result<(), NoMemory>
+        requires scale { IsScale S }
+        requires acts { RiseBy act_handle numbers.now.acts }
+        ensures blocks { OnOk result (self.new.blocks ≡ made_anew Entity (entity_records numbers.now.acts outline.now.entities) self.old.blocks) }
+        ensures lists { self.new.lists ≡ self.old.lists }
+        ensures err { OnErr result (self.new ≡ self.old) }
+    {
+        let text = entity_text(
+            *self.params.allocator(),
+            outline.entities.as_slice(),
+            numbers.acts.as_slice(),
+        )?;
+        self.book.set_entities(&text)
     }
 
     /// Appends the text. At an `Err` nothing is appended.

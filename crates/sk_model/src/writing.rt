@@ -5,12 +5,10 @@ ghost use Rattle.std.specs.Fmt.{decimal};
 ghost use Rattle.sk_num.specs.Scale.{IsScale};
 ghost use Rattle.sk_num.specs.Spelling.{quantity_of, quantity_text};
 ghost use Rattle.sk_text.specs.Lines.{line_bytes};
-ghost use Rattle.sk_records.specs.Rows.{value_body};
 ghost use Rattle.sk_records.specs.Blocks.{with_tails};
 ghost use Rattle.sk_records.specs.Written.{bytes_of};
-ghost use Rattle.sk_model.specs.Keys.{key_bytes};
 ghost use Rattle.sk_model.specs.Changes.{fed_line, entry_text, param_record};
-ghost use Rattle.sk_model.specs.WrittenLines.{IsEntryText, IsListText};
+ghost use Rattle.sk_model.specs.WrittenLines.{pair_bytes, IsEntryText, IsListText};
 
 use crate::NoMemory;
 use crate::keys::Key;
@@ -19,11 +17,11 @@ use sk_num::{Grid, handle_text, quantity_text};
 use sk_types::RemapEntry;
 use std::alloc::Global;
 
-// Appends a value line.
-fn push_value(out: &mut Vec<u8>, key: Key, value: &[u8]) -> Result<(), NoMemory>
-    ensures { OnOk result (out.new.items ≡ out.old.items ++ line_bytes (fed_line (value_body (key_bytes key) value.now))) }
+/// Appends a line `key=value`.
+pub(crate) fn push_value(out: &mut Vec<u8>, key: &[u8], value: &[u8]) -> Result<(), NoMemory>
+    ensures { OnOk result (out.new.items ≡ out.old.items ++ pair_bytes ((key.now, value.now) ∷ [])) }
 {
-    out.extend_from_slice(key.bytes())?;
+    out.extend_from_slice(key)?;
     out.push(b'=')?;
     out.extend_from_slice(value)?;
     out.push(b'\n')?;
@@ -40,9 +38,13 @@ pub(crate) fn push_param<const S: u32>(
     ensures lines { OnOk result (out.new.items ≡ out.old.items ++ bytes_of (with_tails (param_record S id value.entry ∷ []))) }
     ensures reads { OnOk result (quantity_of S (quantity_text S value.entry) ≡ Ok value.entry) }
 {
-    push_value(out, Key::ParamHandle, &handle_text(id))?;
+    push_value(out, Key::ParamHandle.bytes(), &handle_text(id))?;
     let text = quantity_text(value);
-    push_value(out, Key::ParamValue, &text.bytes[..usize::from(text.len)])?;
+    push_value(
+        out,
+        Key::ParamValue.bytes(),
+        &text.bytes[..usize::from(text.len)],
+    )?;
     out.extend_from_slice(b"AddParam\n\n")?;
     Ok(())
 }
