@@ -1,6 +1,6 @@
 -- The bulge of an arc, as DXF has it: the tangent of a quarter of the angle that it sweeps, below 0 where it runs clockwise.
 -- All numbers are units; each product and quotient is rounded to the nearest, and none is answered where one passes the limit.
-use Rattle.std.specs.Prelude.{◌==◌, ◌-◌, ◌*◌, ◌^◌, ℕ, ℤ, pos, neg_ℤ, ◌+ℤ◌, ◌-ℤ◌, unsigned_abs, int_lt, Bool, List, [], ◌∷◌, get_or, Option, Some, None, option_and_then, option_map, if◌then◌else◌}
+use Rattle.std.specs.Prelude.{◌==◌, ◌-◌, ◌*◌, ◌^◌, ℕ, ℤ, pos, neg_ℤ, ◌+ℤ◌, ◌-ℤ◌, unsigned_abs, int_lt, Bool, List, [], ◌∷◌, Option, Some, None, option_and_then, option_map, if◌then◌else◌}
 use Rattle.std.specs.Int.{is_negative}
 use Rattle.sk_num.specs.Limit.{grid_of}
 use Rattle.sk_num.specs.Rounding.{rounded_product, rounded_quotient}

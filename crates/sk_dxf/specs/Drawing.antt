@@ -1,5 +1,5 @@
 -- The drawing of a group, as a text of ASCII DXF with one section.
-use Rattle.std.specs.Prelude.{◌==◌, ℕ, List, [], ◌++◌, codes, Option, Some, None, option_map, Result, Ok, Err, if◌then◌else◌}
+use Rattle.std.specs.Prelude.{◌==◌, ℕ, List, [], ◌++◌, codes, Option, option_map, Result, Ok, Err, if◌then◌else◌}
 use Rattle.std.specs.List.{find, flat_map}
 use Rattle.sk_types.specs.declared.handle.EntityId.{EntityId}
 use Rattle.sk_types.specs.declared.handle.GroupId.{GroupId}

@@ -18,9 +18,9 @@ use Rattle.sk_geom.specs.Quaternions.{quaternion_axes}
 use Rattle.sk_geom.specs.LineFrame.{rounded_minor}
 use Rattle.sk_cubic.specs.CurvePoint.{curve_number, curve_point}
 use Rattle.sk_dxf.specs.declared.shape.Shape.{Shape}
-use Rattle.sk_dxf.specs.declared.shape.Shape.TheVariants.{Line, Point, Circle, Arc, Cubic}
+use Rattle.sk_dxf.specs.declared.shape.Shape.TheVariants.{Point, Circle, Arc, Cubic}
 use Rattle.sk_dxf.specs.declared.shape.LeftOut.TheVariants.{Construction, NotDatum, NoCurve, Tilted, ExtraPoints, NotLevel}
-use Rattle.sk_dxf.specs.Plane.{PlaneNumbers, drawing_plane, plane_numbers, coordinates, leaning, facing, is_tilted}
+use Rattle.sk_dxf.specs.Plane.{PlaneNumbers, drawing_plane, plane_numbers, coordinates, leaning, facing}
 use Rattle.sk_dxf.specs.Bulge.{spoke, rounded_pair, ratio, clamped, sweep_cosine, half_cosine, half_sine, quarter_tangent, bulge_between, bulge}
 use Rattle.sk_dxf.specs.Shapes.{line_shape, point_shape, circle_shape, bulged, arc_shape, if_level, cubic_shape, shape_by_kind, shape_of, all_places}
 use Rattle.sk_dxf.specs.Lines.{quantity_lines, first_place, second_place, line_text, point_text, circle_text, vertex, bulged_vertex, arc_text, cubic_text, polyline, sequence_end, shape_text}

@@ -117,7 +117,7 @@ fn put_drawing<const S: u32>(
 }
 
 /// Appends the drawing of a group in ASCII DXF: its lines, datum points, circles, arcs and cubics in the plane of its active
-/// workplane, or of XY where none is active. Millimetres with 20 decimals, all on layer 0.
+/// workplane, or of XY where what is active is none. Millimetres with 20 decimals, all on layer 0.
 ///
 /// NoGroup exactly where the model has no such group. At an `Err` nothing is appended.
 pub fn write_dxf<const S: u32>(

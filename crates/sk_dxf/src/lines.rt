@@ -1,7 +1,7 @@
 // The text of shapes.
 #![tactic(auto)]
 
-ghost use Rattle.std.specs.Prelude.{◌≡◌, ◌++◌, ◌≤◌, OnOk, codes};
+ghost use Rattle.std.specs.Prelude.{◌≡◌, ◌++◌, ◌≤◌, OnOk};
 ghost use Rattle.sk_num.specs.Scale.{IsScale};
 ghost use Rattle.sk_dxf.specs.Lines.{quantity_lines, first_place, second_place, line_text, point_text, circle_text, vertex, bulged_vertex, arc_text, vertices, cubic_text, shape_text};
 

@@ -1,7 +1,6 @@
 // The plane of a drawing, with its axes at hand.
 
-ghost use Rattle.std.specs.Prelude.{◌≡◌, ◌∷◌, [], pos, option_map};
-ghost use Rattle.std.specs.Option.{option_copied};
+ghost use Rattle.std.specs.Prelude.{◌≡◌, ◌∷◌, [], option_map};
 ghost use Rattle.sk_num.specs.Each.{each_some};
 ghost use Rattle.sk_num.specs.Ends.{mid};
 ghost use Rattle.sk_num.specs.Scale.{IsScale};

@@ -1,4 +1,4 @@
-use Rattle.std.proofs.Common.{◌≤◌, ◌-◌, ◌^◌, arith, lit≤}
+use Rattle.std.proofs.Common.{◌≤◌, ◌-◌, arith, lit≤}
 use Rattle.std.proofs.lemmas.Nat.{one_shl}
 use Rattle.std.proofs.Math.Nat.{pow-le-pow_right}
 use Rattle.sk_num.specs.Scale.{IsScale-bounds}
