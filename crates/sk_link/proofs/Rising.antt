@@ -40,7 +40,7 @@ use Rattle.sk_link.proofs.Tried.{Entries, with_stored}
 less : (n m : ℕ) → n < m → nat_cmp n m ≡ Less
 less n m h = rw (lt-ltb n m h) refl
 
-abbrev Above : ℕ → List ℕ → Type 0
+abbrev pub Above : ℕ → List ℕ → Type 0
 Above n ks = AllByRecursion (λ k. nat_cmp n k ≡ Less) ks
 
 above_lower : (k n : ℕ) (ks : List ℕ) → k < n → Above n ks → Above k ks
@@ -76,27 +76,27 @@ module _ {X : Type 0} where
       by_order Equal o more = h
       by_order Greater o more = (keys_above e.0 k v es (less e.0 k (ranked k e.0 Greater (sym o))) h.0, more)
 
-nothing_rises : IsStrictlySortedBy nat_cmp []
+pub nothing_rises : IsStrictlySortedBy nat_cmp []
 unfolding IsStrictlySortedBy
 nothing_rises = tt
 
 -- ---- entities under their own handles
 
 module _ {s : ℕ} where
-  abbrev IsUnder : ℕ → Option (Entity s) → Type 0
+  abbrev pub IsUnder : ℕ → Option (Entity s) → Type 0
   IsUnder n o = IfSome o (λ e. e.id.0 ≡ n)
 
-  abbrev AreUnder : Entries s → Type 0
+  abbrev pub AreUnder : Entries s → Type 0
   AreUnder es = AllByRecursion (λ (e : ℕ × Option (Entity s)). IsUnder e.0 e.1) es
 
-  abbrev AreOwn : List (Stored s) → Type 0
+  abbrev pub AreOwn : List (Stored s) → Type 0
   AreOwn xs = AllByRecursion (λ (x : Stored s). IsUnder x.handle x.entity) xs
 
-  kept_rise : (es : Entries s) (xs : List (Stored s)) → IsStrictlySortedBy nat_cmp (keys_of es) → IsStrictlySortedBy nat_cmp (keys_of (with_stored es xs))
+  pub kept_rise : (es : Entries s) (xs : List (Stored s)) → IsStrictlySortedBy nat_cmp (keys_of es) → IsStrictlySortedBy nat_cmp (keys_of (with_stored es xs))
   kept_rise es [] h = h
   kept_rise es (x ∷ xs) h = kept_rise (insert_entry nat_cmp es x.handle x.entity) xs (keys_rise x.handle x.entity es h)
 
-  kept_under : (es : Entries s) (xs : List (Stored s)) → AreOwn xs → AreUnder es → AreUnder (with_stored es xs)
+  pub kept_under : (es : Entries s) (xs : List (Stored s)) → AreOwn xs → AreUnder es → AreUnder (with_stored es xs)
   kept_under es [] own h = h
   kept_under es (x ∷ xs) own h =
       kept_under (insert_entry nat_cmp es x.handle x.entity) xs own.1
@@ -124,7 +124,7 @@ module _ {s : ℕ} where
   own_stored (Ok k) x e = let p : stored_of k ≡ x = cc in subst (λ (y : Stored s). IsUnder y.handle y.entity) p (own_entity k (number_of k.kind))
   own_stored (Err f) x e = absurd (cc)
 
-  own_all : (rs : List (List Row)) (xs : List (Stored s)) → each_ok (stored s) rs ≡ Ok xs → AreOwn xs
+  pub own_all : (rs : List (List Row)) (xs : List (Stored s)) → each_ok (stored s) rs ≡ Ok xs → AreOwn xs
   own_all [] xs e = let p : xs ≡ [] = cc in rw p tt
   own_all (r ∷ rs) xs e = by_cases (stored s r) (each_ok (stored s) rs) xs (λ x h. own_stored (entity_keys s r) x h) (λ ys h. own_all rs ys h) e
     where

@@ -5,6 +5,7 @@ pub mod Keys
 pub mod Fields
 pub mod Stored
 pub mod Part
+pub mod PartLaws
 pub mod Replies
 pub mod Parts
 pub mod Examples

@@ -1,12 +1,12 @@
 // What is read under the keys of one record.
 
-ghost use Rattle.std.specs.Prelude.{◌≡◌, ◌<◌, length, unwrap_or};
+ghost use Rattle.std.specs.Prelude.{◌≡◌, ◌<◌, length, map, unwrap_or};
 ghost use Rattle.std.specs.Option.{option_copied};
 ghost use Rattle.sk_num.specs.Scale.{IsScale};
 ghost use Rattle.sk_records.specs.Answers.{rows_in};
 ghost use Rattle.sk_records.specs.Blocks.{records};
-ghost use Rattle.sk_records.specs.Rows.{last_number, last_value};
-ghost use Rattle.sk_link.specs.Keys.{key_bytes};
+ghost use Rattle.sk_records.specs.Rows.{last_number, last_place, last_value};
+ghost use Rattle.sk_link.specs.Keys.{key_bytes, all_keys};
 ghost use Rattle.sk_link.specs.Fields.{handle_under, whole_under, quantity_under, flag_under};
 
 use crate::fault::Refusal;
@@ -15,40 +15,45 @@ use sk_num::{Grid, read_handle, read_quantity, read_whole};
 use sk_records::{Book, RecId};
 use std::marker::Model;
 
-/// A record of a book. Contracts see it as its lines.
+/// A record of a book, with the places of the lines that have the keys. Contracts see it as its lines.
 #[derive(Drop)]
 pub(crate) struct Fields<'b> {
     book: &'b Book,
     rec: RecId,
+    found: &'b [Option<usize>],
 }
 
 impl<'b> Model for Fields<'b> {
-    ghost use Rattle.std.specs.Prelude.{◌<◌, List, length};
+    ghost use Rattle.std.specs.Prelude.{◌≡◌, ◌<◌, List, length, map};
     ghost use Rattle.sk_records.specs.Answers.{rows_in};
     ghost use Rattle.sk_records.specs.Blocks.{records};
-    ghost use Rattle.sk_records.specs.Rows.{Row};
+    ghost use Rattle.sk_records.specs.Rows.{Row, last_place};
+    ghost use Rattle.sk_link.specs.Keys.{key_bytes, all_keys};
 
     ghost Value = { List Row };
 
     ghost view = { λ f. rows_in f.rec f.book.now };
 
-    ghost invariant = { λ f. f.rec.place < length (records f.rec.kind f.book.now) };
+    ghost invariant = { λ f. (f.rec.place < length (records f.rec.kind f.book.now))
+        × (f.found.now ≡ map (λ k. last_place (key_bytes k) (rows_in f.rec f.book.now)) all_keys) };
 }
 
 impl<'b> Fields<'b> {
-    /// The lines of a record.
-    pub(crate) fn of(book: &'b Book, rec: RecId) -> Fields<'b>
-        requires { rec.place < length (records rec.kind book.now) }
+    /// The lines of a record, by the places of the last ones with the keys.
+    pub(crate) fn of(book: &'b Book, rec: RecId, found: &'b [Option<usize>]) -> Fields<'b>
+        requires exists { rec.place < length (records rec.kind book.now) }
+        requires found { found.now ≡ map (λ k. last_place (key_bytes k) (rows_in rec book.now)) all_keys }
         ensures { result ≡ rows_in rec book.now }
     {
-        Fields { book, rec }
+        Fields { book, rec, found }
     }
 
     // The value of the last line with a key.
     fn value(&self, key: Key) -> Option<&'b [u8]>
         ensures { option_copied result ≡ last_value (key_bytes key) self.now }
     {
-        self.book.value(self.rec, key.bytes())
+        let line = self.found[key.place()];
+        self.book.value_at(self.rec, key.bytes(), line)
     }
 
     fn number_at(&self, key: Key) -> Refusal

@@ -1,7 +1,15 @@
 // The keys of an entity's record that are read.
 
-ghost use Rattle.std.specs.Prelude.{◌≡◌};
-ghost use Rattle.sk_link.specs.Keys.{key_bytes};
+ghost use Rattle.std.specs.Prelude.{◌≡◌, ◌<◌, length, map};
+ghost use Rattle.sk_records.specs.Answers.{rows_in};
+ghost use Rattle.sk_records.specs.Blocks.{records};
+ghost use Rattle.sk_records.specs.Rows.{last_place};
+ghost use Rattle.sk_link.specs.Keys.{key_bytes, key_place, all_keys};
+
+use sk_records::{Book, RecId};
+
+/// How many keys there are.
+pub(crate) const KEYS: usize = 16;
 
 /// A key of an entity's record, named for what stands under it.
 #[derive(Clone, Copy)]
@@ -49,4 +57,57 @@ impl Key {
             Key::Length => b"Entity.actDistance",
         }
     }
+
+    /// The key's place in the order of the keys.
+    pub(crate) fn place(self) -> usize
+        ensures place { result ≡ key_place self }
+        ensures there { result < 16 }
+    {
+        match self {
+            Key::Handle => 0,
+            Key::Number => 1,
+            Key::Construction => 2,
+            Key::FirstPoint => 3,
+            Key::SecondPoint => 4,
+            Key::ThirdPoint => 5,
+            Key::Normal => 6,
+            Key::Distance => 7,
+            Key::PlaceX => 8,
+            Key::PlaceY => 9,
+            Key::PlaceZ => 10,
+            Key::TurnW => 11,
+            Key::TurnX => 12,
+            Key::TurnY => 13,
+            Key::TurnZ => 14,
+            Key::Length => 15,
+        }
+    }
+}
+
+/// The places of a record's last lines with the keys, in their order, in one pass over its lines.
+pub(crate) fn find_lines(book: &Book, rec: RecId) -> [Option<usize>; KEYS]
+    requires { rec.place < length (records rec.kind book.now) }
+    ensures { result ≡ map (λ k. last_place (key_bytes k) (rows_in rec book.now)) all_keys }
+{
+    let keys: [&[u8]; KEYS] = [
+        Key::Handle.bytes(),
+        Key::Number.bytes(),
+        Key::Construction.bytes(),
+        Key::FirstPoint.bytes(),
+        Key::SecondPoint.bytes(),
+        Key::ThirdPoint.bytes(),
+        Key::Normal.bytes(),
+        Key::Distance.bytes(),
+        Key::PlaceX.bytes(),
+        Key::PlaceY.bytes(),
+        Key::PlaceZ.bytes(),
+        Key::TurnW.bytes(),
+        Key::TurnX.bytes(),
+        Key::TurnY.bytes(),
+        Key::TurnZ.bytes(),
+        Key::Length.bytes(),
+    ];
+    let mut found = [None; KEYS];
+    book.find(rec, &keys, &mut found);
+    found
 }

@@ -13,5 +13,6 @@ mod parts;
 mod stored;
 
 pub use fault::PartFault;
+pub use part::law_last_counts;
 pub use parts::{Parts, read_parts};
 pub use std::alloc::AllocError as NoMemory;

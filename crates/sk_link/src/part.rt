@@ -6,11 +6,13 @@ ghost use Rattle.sk_records.specs.Answers.{IsAnswer, rows_in};
 ghost use Rattle.sk_records.specs.Blocks.{records};
 ghost use Rattle.sk_link.specs.Lent.{items_of};
 ghost use Rattle.sk_link.specs.Part.{entities_in, part_in, present_in};
+ghost use Rattle.sk_link.specs.PartLaws.{LastCountsLaw};
 ghost use Rattle.sk_link.specs.Stored.{stored};
 
 use crate::NoMemory;
 use crate::fault::Refusal;
 use crate::fields::Fields;
+use crate::keys::find_lines;
 use crate::stored::Stored;
 use sk_records::{Book, Kind, RecId};
 use sk_types::Entity;
@@ -23,7 +25,8 @@ fn stored_at<const S: u32>(alloc: Global, book: &Book, rec: RecId) -> Result<Sto
     requires exists { rec.place < length (records rec.kind book.now) }
     ensures { IsAnswer Refusal.NoMemory result (stored S (rows_in rec book.now)) }
 {
-    let fields = Fields::of(book, rec);
+    let found = find_lines(book, rec);
+    let fields = Fields::of(book, rec, &found);
     Stored::read(alloc, &fields)
 }
 
@@ -71,3 +74,9 @@ pub(crate) fn part_in<const S: u32>(alloc: Global, text: Vec<u8>) -> Result<Vec<
     let book = Book::read(alloc, text)?;
     entities_in(alloc, &book)
 }
+
+/// Of a part's records with one handle the last counts, in file order and whatever its number: a law. The function does nothing
+/// when it runs.
+pub fn law_last_counts()
+    ensures { LastCountsLaw }
+{}
