@@ -1,5 +1,5 @@
 -- Worked rows of the search, by computation, at the scale 36.
-use Rattle.std.specs.Prelude.{◌≡◌, refl, ℕ, ◌+◌, ◌*◌, ◌^◌, List, [], ◌∷◌, ◌++◌, ℤ, pos, negsuc, ◌==◌, unsigned_abs, get_or, Option, Some, None, if◌then◌else◌, ◌-◌, true}
+use Rattle.std.specs.Prelude.{◌≡◌, refl, ℕ, ◌+◌, ◌*◌, ◌^◌, List, [], ◌∷◌, ◌++◌, ℤ, pos, negsuc, ◌==◌, unsigned_abs, get_or, map, Option, Some, None, if◌then◌else◌, ◌-◌, true}
 use Rattle.sk_expr.specs.Poly.{Poly, number, unknown, plus, minus, times}
 use Rattle.sk_expr.specs.Rows.{NamedRow}
 use Rattle.sk_expr.specs.Seen.{Seen}
@@ -8,6 +8,8 @@ use Rattle.sk_expr.specs.declared.row.RowKind.TheVariants.{OfConstraint}
 use Rattle.sk_krawczyk.specs.Box.{radius_exponent, newton_step}
 use Rattle.sk_krawczyk.specs.Distance.{distance_row}
 use Rattle.sk_krawczyk.specs.IntervalTest.{Outcome, fails, passes, Certificate, slopes_at, radius_test, box_test, elimination_test, interval_test}
+use Rattle.sk_expr.specs.declared.row.RowName.{RowName}
+use Rattle.sk_solve.specs.Held.{radius_log, suspect_by}
 use Rattle.sk_solve.specs.Search.{Unsolved, Range, Degenerate, stayed, certified_at, moved, search, verdict_over}
 
 -- ---- systems of one row
@@ -100,3 +102,17 @@ at-limit = refl
 
 pub past-limit : moved (0 ∷ []) (negsuc 0 ∷ []) (pos (2 ^ 62) ∷ []) ≡ None
 past-limit = refl
+
+-- ---- as the code holds them
+
+abbrev row-name : ℕ → RowName
+row-name h = record { kind = OfConstraint; handle = h; index = 0 }
+
+-- 16 and 2^18 units
+pub radius-logs : map (radius_log 36) (16 ∷ 2 ^ 18 ∷ []) ≡ negsuc 31 ∷ negsuc 17 ∷ []
+unfolding radius_log
+radius-logs = refl
+
+-- a suspect has the name of its row, not its place
+pub by-name : map (suspect_by (row-name 7 ∷ row-name 8 ∷ [])) (record { row = 1; misses = true } ∷ []) ≡ record { row = row-name 8; misses = true } ∷ []
+by-name = refl

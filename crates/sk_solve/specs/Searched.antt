@@ -192,8 +192,8 @@ module _ (visit : List ℤ → Outcome) (x0 : List ℤ) (c : ℕ) (e : ℤ) wher
   unfolding search visited
   stands a = stands_from 40 x0 a refl
 
-pub search_law_proof : SearchLaw
-search_law_proof = record {
+pub search_law : SearchLaw
+search_law = record {
   kept = kept;
   again = again;
   first = first;
