@@ -4,11 +4,13 @@
 
 mod laws;
 mod moving;
+mod report;
 mod result;
 mod search;
 mod visit;
 
 pub use laws::search_law;
+pub use report::{Listed, Report};
 pub use result::{GroupResult, Verdict};
 pub use search::solve_group;
 pub use std::alloc::AllocError as NoMemory;
