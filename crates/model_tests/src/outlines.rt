@@ -1,13 +1,11 @@
 // Outlines of models.
 
-ghost use Rattle.std.specs.Prelude.{◌≡◌};
-ghost use Rattle.std.specs.List.{list_all};
-ghost use Rattle.sk_model.specs.Typed.{is_space_kind};
-
 use sk_chain::{order_groups, outline};
+use sk_files::MemFolder;
+use sk_link::read_parts;
 use sk_model::{Model, ModelFault};
 use sk_records::Book;
-use sk_types::{EntityId, Group, GroupId, GroupKind, entity_at};
+use sk_types::{EntityId, GroupId, entity_at};
 use std::alloc::Global;
 use std::test::Fail;
 
@@ -24,18 +22,8 @@ fn sample(alloc: Global) -> Result<Result<Model<36>, ModelFault>, Fail> {
     Ok(Model::from_book(alloc, book.ok_or("the text doesn't read")?))
 }
 
-fn are_in_space(groups: &[Group<36>]) -> bool
-    ensures { result ≡ list_all (λ g. is_space_kind g.kind) groups.now }
-{
-    for group in groups {
-        if !matches!(group.kind, GroupKind::Space) {
-            return false;
-        }
-    }
-    true
-}
-
 #[test]
+#[tactic(auto, using(sk_num::specs::Scale::scale_facts))]
 fn an_outline_has_order_and_entities(rt: HostRuntime) -> Result<(), Fail> {
     let alloc = rt.alloc();
     let mut model = sample(alloc)?.expect(&rt, "no fault");
@@ -44,8 +32,9 @@ fn an_outline_has_order_and_entities(rt: HostRuntime) -> Result<(), Fail> {
         order.as_slice(),
         [GroupId(1), GroupId(2), GroupId(3)].as_slice()
     );
-    assert!(rt; are_in_space(model.groups()));
-    let outlined = outline(alloc, &mut model).expect(&rt, "no fault");
+    let mut folder = MemFolder::new(alloc);
+    let parts = read_parts(alloc, &[], &mut folder).expect(&rt, "no part");
+    let outlined = outline(alloc, &mut model, &parts).expect(&rt, "no fault");
     let entities = outlined.entities.as_slice();
     assert!(rt; entities.len() == 10);
     let point = entity_at(entities, EntityId(0x40000)).ok_or("no point")?;

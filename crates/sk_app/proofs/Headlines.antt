@@ -12,7 +12,7 @@ use Rattle.sk_model.specs.declared.faults.ModelFault.{ModelFault}
 use Rattle.sk_types.specs.Lookups.{value_of}
 use Rattle.sk_model.specs.Typed.{Typed, typed}
 use Rattle.sk_app.proofs.Values.{ok-same, stored-fits}
-use Rattle.sk_chain.specs.Outlines.{outlined}
+use Rattle.sk_chain.specs.Outlines.{outline_in, outlined}
 use Rattle.sk_app.specs.declared.fault.Refusal.{Refusal}
 use Rattle.sk_app.specs.declared.fault.Refusal.TheVariants.{Text, Typed as IllTyped}
 use Rattle.sk_app.specs.declared.report.Certified.{Certified}
@@ -43,17 +43,17 @@ outline_step lists bs (Ok o) m t h =
     subst (λ (m : Accepted). IsTypedFrom m.lists) (ok-same _ (record { lists = lists; outline = o }) m refl h) (record { blocks = bs; typed_as = t })
 
 built_step : (lists : Typed 36) (bs : List TextBlock) (u : Option ℕ) (m : Accepted) → typed 36 bs ≡ Ok lists
-    → unless (option_map not_yet u) (then_of (with_err IllTyped (outlined 36 lists)) (λ o. Ok (record { lists = lists; outline = o }))) ≡ Ok m → IsTypedFrom m.lists
+    → unless (option_map not_yet u) (then_of (with_err IllTyped (outline_in (outlined [] lists))) (λ o. Ok (record { lists = lists; outline = o }))) ≡ Ok m → IsTypedFrom m.lists
 built_step lists bs (Some n) m t h = absurd cc
-built_step lists bs None m t h = outline_step lists bs (outlined 36 lists) m t h
+built_step lists bs None m t h = outline_step lists bs (outline_in (outlined [] lists)) m t h
 
 typed_step : (bs : List TextBlock) (r : Result (Typed 36) ModelFault) (m : Accepted) → typed 36 bs ≡ r
-    → then_of (with_err IllTyped r) (λ lists. unless (option_map not_yet (unbuilt lists)) (then_of (with_err IllTyped (outlined 36 lists)) (λ o. Ok (record { lists = lists; outline = o })))) ≡ Ok m → IsTypedFrom m.lists
+    → then_of (with_err IllTyped r) (λ lists. unless (option_map not_yet (unbuilt lists)) (then_of (with_err IllTyped (outline_in (outlined [] lists))) (λ o. Ok (record { lists = lists; outline = o })))) ≡ Ok m → IsTypedFrom m.lists
 typed_step bs (Err e) m t h = absurd cc
 typed_step bs (Ok lists) m t h = built_step lists bs (unbuilt lists) m t h
 
 read_step : (r : Result (List TextBlock) ReadFault) (m : Accepted)
-    → then_of (with_err Text r) (λ bs. then_of (with_err IllTyped (typed 36 bs)) (λ lists. unless (option_map not_yet (unbuilt lists)) (then_of (with_err IllTyped (outlined 36 lists)) (λ o. Ok (record { lists = lists; outline = o }))))) ≡ Ok m
+    → then_of (with_err Text r) (λ bs. then_of (with_err IllTyped (typed 36 bs)) (λ lists. unless (option_map not_yet (unbuilt lists)) (then_of (with_err IllTyped (outline_in (outlined [] lists))) (λ o. Ok (record { lists = lists; outline = o }))))) ≡ Ok m
     → IsTypedFrom m.lists
 read_step (Err e) m h = absurd cc
 read_step (Ok bs) m h = typed_step bs (typed 36 bs) m refl h

@@ -1,19 +1,13 @@
 -- What stops the work on a model.
-use Rattle.std.proofs.Common.{◌≡◌, inl, inr, refl, ap, List, [], ◌∷◌, Option, Some, None, Bool, true, Result, Err}
-use Rattle.std.specs.Prelude.{ℕ}
-use Rattle.std.specs.Option.{option_or}
-use Rattle.std.specs.List.{list_all}
-use Rattle.std.proofs.lemmas.Bool.{cases_Bool}
+use Rattle.std.proofs.Common.{◌≡◌, inl, inr, ap, List, Result, Err}
 use Rattle.sk_records.specs.Blocks.{Block}
 use Rattle.sk_records.specs.declared.faults.ReadFault.{ReadFault}
 use Rattle.sk_records.specs.declared.faults.ReadFault.TheVariants as text
 use Rattle.sk_records.specs.Answers.{IsFault}
 use Rattle.sk_model.specs.declared.faults.ModelFault.{ModelFault}
 use Rattle.sk_model.specs.declared.faults.ModelFault.TheVariants as model
-use Rattle.sk_model.specs.Typed.{Typed, is_space_kind, group_handle, request_handle, constraint_handle}
 use Rattle.sk_app.specs.declared.fault.Refusal.TheVariants.{Text, Typed as IllTyped}
 use Rattle.sk_app.specs.Chain.{with_err}
-use Rattle.sk_app.specs.Built.{first_without, is_built_request, is_built_constraint, unbuilt}
 use Rattle.sk_app.specs.Lent.{IsAnswer, stop_of_text, stop_of_model}
 
 -- the fault of a text is what the work stops for
@@ -54,21 +48,3 @@ wanted e r h = rw h tt
 pub model_stops : {T : Type 0} (e : ModelFault) (r : Result T ModelFault) → IsFault model.NoMemory e r → IsAnswer (Err (stop_of_model e)) (with_err IllTyped r)
 model_stops e r (inl h) = wanted e r h
 model_stops e r (inr h) = told e r h
-
--- where everything is built, all groups are drawings in space
-all_built : {T : Type 0} (is_built : T → Bool) (handle : T → ℕ) (xs : List T) → first_without is_built handle xs ≡ None → list_all is_built xs ≡ true
-all_built is_built handle [] h = refl
-all_built is_built handle (x ∷ xs) h = elim (cases_Bool (is_built x)) [
-  | inl y ↦ rw y (all_built is_built handle xs (rw y at h))
-  | inr n ↦ let u : Some (handle x) ≡ None = rw n at h in absurd cc
-]
-
-first_none : {T : Type 0} (a b : Option T) → option_or a b ≡ None → a ≡ None
-first_none None b h = refl
-first_none (Some x) b h = absurd cc
-
-pub built_spaces : {s : ℕ} (lists : Typed s) → unbuilt lists ≡ None → list_all (λ g. is_space_kind g.kind) lists.groups ≡ true
-unfolding unbuilt
-built_spaces lists h = all_built (λ g. is_space_kind g.kind) group_handle lists.groups
-    (first_none (first_without (λ g. is_space_kind g.kind) group_handle lists.groups)
-    (option_or (first_without is_built_request request_handle lists.requests) (first_without is_built_constraint constraint_handle lists.constraints)) h)

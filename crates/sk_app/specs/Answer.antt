@@ -3,7 +3,7 @@ use Rattle.std.specs.Prelude.{ℕ, List, [], ◌∷◌, ◌++◌, map, length, O
 use Rattle.sk_records.specs.Reading.{read_text}
 use Rattle.sk_types.specs.declared.entity.Outline.{Outline}
 use Rattle.sk_model.specs.Typed.{Typed, typed}
-use Rattle.sk_chain.specs.Outlines.{outlined}
+use Rattle.sk_chain.specs.Outlines.{outline_in, outlined}
 use Rattle.sk_app.specs.declared.fault.Refusal.{Refusal}
 use Rattle.sk_app.specs.declared.fault.Refusal.TheVariants.{Text, Typed as IllTyped}
 use Rattle.sk_app.specs.declared.status.Status.{Status}
@@ -73,7 +73,7 @@ accepted text =
     then_of (with_err Text (read_text text)) (λ bs.
     then_of (with_err IllTyped (typed 36 bs)) (λ lists.
     unless (option_map not_yet (unbuilt lists)) (
-    then_of (with_err IllTyped (outlined 36 lists)) (λ o. Ok (record { lists = lists; outline = o })))))
+    then_of (with_err IllTyped (outline_in (outlined [] lists))) (λ o. Ok (record { lists = lists; outline = o })))))
 
 -- the certified groups of a text, or what it is refused for
 unfoldable pub report_of : List ℕ → Result (List Certified) Refusal

@@ -1,12 +1,10 @@
 // Models that are accepted, with the outline of their entities.
-ghost use Rattle.std.specs.Prelude.{◌≡◌, IfOk};
+ghost use Rattle.std.specs.Prelude.{◌≡◌, [], IfErr, IfOk};
 ghost use Rattle.sk_records.specs.Reading.{read_text};
 ghost use Rattle.sk_model.specs.Typed.{typed};
-ghost use Rattle.sk_types.specs.Params.{OwnFit};
-ghost use Rattle.sk_chain.specs.Outlines.{outlined};
+ghost use Rattle.sk_chain.specs.Outlines.{outline_in, outlined};
 ghost use Rattle.sk_app.specs.declared.fault.Refusal.TheVariants.{Text, Typed as IllTyped};
 ghost use Rattle.sk_app.specs.Chain.{with_err, unless};
-ghost use Rattle.sk_app.specs.Built.{unbuilt as first_unbuilt};
 ghost use Rattle.sk_app.specs.Certified.{not_yet};
 ghost use Rattle.sk_app.specs.Answer.{accepted};
 ghost use Rattle.sk_app.specs.Lent.{IsAnswer, lists_in, model_in, IsSmall};
@@ -15,6 +13,8 @@ use crate::SCALE;
 use crate::built::unbuilt;
 use crate::fault::{StageFault, Stop};
 use sk_chain::outline;
+use sk_files::MemFolder;
+use sk_link::{Parts, read_parts};
 use sk_model::Model;
 use sk_records::Book;
 use sk_types::Outline;
@@ -48,18 +48,45 @@ fn typed_model(alloc: Global, book: Book) -> Result<Model<SCALE>, Stop>
     }
 }
 
-// The outline of a model in which everything is built.
+// The parts of no group.
 #[tactic(auto, using(sk_num::specs::Scale::scale_facts))]
-fn outline_of(alloc: Global, model: &mut Model<SCALE>) -> Result<Outline<SCALE>, Stop>
-    requires { first_unbuilt model.old.lists ≡ None }
-    ensures value { IsAnswer result (with_err IllTyped (outlined 36 model.old.lists)) }
-    ensures small { IfOk result IsSmall }
-    ensures same { model.new ≡ model.old }
+fn no_parts(alloc: Global) -> Result<Parts<SCALE>, Stop>
+    ensures none { IfOk result (λ parts. parts ≡ []) }
+    ensures wanting { IfErr result (λ stop. stop ≡ Stop.NoMemory) }
 {
-    match outline(alloc, model) {
+    let mut folder = MemFolder::new(alloc);
+    match read_parts(alloc, &[], &mut folder) {
+        Ok(parts) => Ok(parts),
+        Err(_) => Err(Stop::NoMemory),
+    }
+}
+
+// The outline of a model over the parts of no group.
+#[tactic(auto, using(sk_num::specs::Scale::scale_facts))]
+fn outline_over(
+    alloc: Global,
+    model: &mut Model<SCALE>,
+    parts: &Parts<SCALE>,
+) -> Result<Outline<SCALE>, Stop>
+    requires { parts.now ≡ [] }
+    ensures value { IsAnswer result (with_err IllTyped (outline_in (outlined [] model.old.lists))) }
+    ensures small { IfOk result IsSmall }
+{
+    match outline(alloc, model, parts) {
         Ok(outline) => Ok(outline),
         Err(fault) => Err(fault.into()),
     }
+}
+
+// The outline of a model in which everything is built. The model is left as it is: a drawing in space has no copies.
+fn outline_of(alloc: Global, model: &Model<SCALE>) -> Result<Outline<SCALE>, Stop>
+    ensures value { IsAnswer result (with_err IllTyped (outline_in (outlined [] model.now.lists))) }
+    ensures small { IfOk result IsSmall }
+{
+    let parts = no_parts(alloc)?;
+    let mut model = model.copy(alloc)?;
+    let outline = outline_over(alloc, &mut model, &parts)?;
+    Ok(outline)
 }
 
 /// Reads and types a text, and outlines its entities; what isn't built yet is refused before that.
@@ -69,10 +96,10 @@ pub(crate) fn accept(alloc: Global, text: Vec<u8>) -> Result<Accepted, Stop>
     ensures small { IfOk result (λ a. IsSmall a.outline) }
 {
     let book = read_book(alloc, text)?;
-    let mut model = typed_model(alloc, book)?;
+    let model = typed_model(alloc, book)?;
     if let Some(handle) = unbuilt(&model) {
         return Err(StageFault::NotYet(handle).into());
     }
-    let outline = outline_of(alloc, &mut model)?;
+    let outline = outline_of(alloc, &model)?;
     Ok(Accepted { model, outline })
 }

@@ -22,7 +22,8 @@ use Rattle.sk_chain.specs.declared.sizes.Count.{Count}
 use Rattle.sk_chain.specs.Counts.{stopped, nothing, more, added, all_added, of_group, of_entity, of_constraint, counted}
 use Rattle.sk_chain.specs.Known.{place_handle}
 use Rattle.sk_chain.specs.Lookups.{place_in}
-use Rattle.sk_chain.specs.Order.{comes_before, group_order, groups_in_order, put_in}
+use Rattle.sk_copy.specs.Order.{in_order, put_in}
+use Rattle.sk_chain.specs.Order.{comes_before, group_order, groups_in_order}
 use Rattle.sk_chain.specs.Outlines.{size_fault}
 use Rattle.sk_chain.proofs.Distinct.{eq_flips, two}
 use Rattle.sk_chain.proofs.Orders.{groups_distinct}
@@ -211,13 +212,14 @@ module _ {s : ℕ} (cs : List (Constraint s)) (es : List (Entity s)) where
       rw (all_added_map (λ h. h.id) order of_group gs (λ g. nothing), all_added_map (λ e. e.group) order (of_entity cs) es (λ g. plus nothing (share (λ h. h.id) of_group g gs)))
       (all_added_map (λ c. c.group) order (of_constraint es) cs (λ g. plus (plus nothing (share (λ h. h.id) of_group g gs)) (share (λ e. e.group) (of_entity cs) g es)))
 
-  in_order : (f : Group s → ℕ) (gs : List (Group s)) (g : GroupId) → part (λ h. h.id) f g (groups_in_order gs) ≡ part (λ h. h.id) f g gs
-  in_order f gs g = let all = onto_part (λ h. h.id) comes_before f g [] gs in omega (arith, all)
+  part_in_order : (f : Group s → ℕ) (gs : List (Group s)) (g : GroupId) → part (λ h. h.id) f g (groups_in_order gs) ≡ part (λ h. h.id) f g gs
+  unfolding in_order
+  part_in_order f gs g = let all = onto_part (λ h. h.id) comes_before f g [] gs in omega (arith, all)
 
   total_is : (gs : List (Group s)) (g : Group s) → part (λ h. h.id) (λ h. length (group_params h)) g.id (groups_in_order gs) ≡ length (group_params g) → part (λ h. h.id) (λ h. (of_group h).rows) g.id (groups_in_order gs) ≡ (of_group g).rows → stop (total gs g.id) ≡ sizes g
   total_is gs g u r =
-      let a = in_order (λ h. length (group_params h)) gs g.id in
-      let b = in_order (λ h. (of_group h).rows) gs g.id in
+      let a = part_in_order (λ h. length (group_params h)) gs g.id in
+      let b = part_in_order (λ h. (of_group h).rows) gs g.id in
       let c = length-flat_map (free_params cs) (of_one (λ e. e.group) g.id es) in
       let d = length-append (flat_map (free_params cs) (of_one (λ e. e.group) g.id es)) (group_params g) in
       counts_equal _ _ _ _ (ap stopped (omega (arith, a, c, d, u))) (ap stopped (omega (arith, b, r)))

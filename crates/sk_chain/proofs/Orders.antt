@@ -4,21 +4,17 @@ use Rattle.std.specs.Prelude.{◌==◌, int_lt, if◌then◌else◌}
 use Rattle.std.specs.Ordering.{nat_cmp, int_cmp, bool_cmp, ordering_then, match_ordering}
 use Rattle.std.specs.declared.cmp.Ordering.{Ordering}
 use Rattle.std.specs.declared.cmp.Ordering.TheVariants.{Less, Greater}
-use Rattle.std.specs.BTreeMap.{insert_entry}
 use Rattle.std.specs.BTreeSet.{insert_key}
-use Rattle.std.specs.List.{All, AllByRecursion, IsDistinct, fold}
-use Rattle.std.specs.List.Sorted.{IsStrictlySortedBy}
-use Rattle.std.specs.Map.{keys_of, values_of}
+use Rattle.std.specs.List.{AllByRecursion, IsDistinct, fold}
 use Rattle.std.proofs.lemmas.List.{length-map, take_all}
-use Rattle.std.proofs.lemmas.List.Elements.{All-from_recursion, recursion_from_All}
-use Rattle.sk_model.specs.Checked.{IsCheckedRequest}
 use Rattle.sk_chain.specs.Known.{place_handle}
 use Rattle.std.proofs.lemmas.List.Sums.{fold_more}
 use Rattle.sk_types.specs.declared.handle.GroupId.{GroupId}
 use Rattle.sk_types.specs.declared.group.Group.{Group}
-use Rattle.sk_types.specs.declared.request.Request.{Request}
-use Rattle.sk_model.specs.Typed.{group_handle, request_handle}
-use Rattle.sk_chain.specs.Order.{put_in, in_order, comes_before, groups_in_order, group_order, requests_in_order}
+use Rattle.sk_model.specs.Typed.{group_handle}
+use Rattle.sk_copy.specs.Order.{put_in, in_order}
+use Rattle.sk_chain.specs.Order.{comes_before, groups_in_order, group_order}
+use Rattle.sk_chain.proofs.InOrder.{all_put, all_onto}
 use Rattle.sk_chain.proofs.Distinct.{two, IsApart, apart_before, eq_flips, to_keys, from_keys}
 
 -- an order of keys and an order of the things that have them agree, at things that are apart
@@ -35,22 +31,6 @@ module _ {T K : Type 0} (key : T → K) (cmp : K → K → Ordering) (before : T
   key_put x [] h = refl
   key_put x (y ∷ ys) h = rw (agree x y h.0, placed, key_put x ys h.1) (mapped key (before x y) (x ∷ y ∷ ys) (y ∷ put_in before x ys))
 
-  entry_put : (x : T) (ys : List T) → AllByRecursion (IsApart kept x) ys → insert_entry cmp (map (λ y. (key y, y)) ys) (key x) x ≡ map (λ y. (key y, y)) (put_in before x ys)
-  entry_put x [] h = refl
-  entry_put x (y ∷ ys) h = rw (agree x y h.0, placed, entry_put x ys h.1) (mapped (λ y. (key y, y)) (before x y) (x ∷ y ∷ ys) (y ∷ put_in before x ys))
-
-  all_if : (P : T → Type 0) (t : Bool) (xs ys : List T) → AllByRecursion P xs → AllByRecursion P ys → AllByRecursion P (if t then xs else ys)
-  all_if P true xs ys h k = h
-  all_if P false xs ys h k = k
-
-  all_put : (P : T → Type 0) (x : T) (ys : List T) → P x → AllByRecursion P ys → AllByRecursion P (put_in before x ys)
-  all_put P x [] h k = (h, tt)
-  all_put P x (y ∷ ys) h k = all_if P (before x y) (x ∷ y ∷ ys) (y ∷ put_in before x ys) (h, k) (k.0, all_put P x ys h k.1)
-
-  all_onto : (P : T → Type 0) (ys xs : List T) → AllByRecursion P ys → AllByRecursion P xs → AllByRecursion P (fold (λ zs x. put_in before x zs) ys xs)
-  all_onto P ys [] h k = h
-  all_onto P ys (x ∷ xs) h k = all_onto P (put_in before x ys) xs (all_put P x ys k.0 h) k.1
-
   distinct_if : (t : Bool) (xs ys : List T) → IsDistinct nat_eq (map kept xs) → IsDistinct nat_eq (map kept ys) → IsDistinct nat_eq (map kept (if t then xs else ys))
   distinct_if true xs ys h k = h
   distinct_if false xs ys h k = k
@@ -60,12 +40,12 @@ module _ {T K : Type 0} (key : T → K) (cmp : K → K → Ordering) (before : T
   distinct_put x [] h d = (tt, tt)
   distinct_put x (y ∷ ys) h d =
       distinct_if (before x y) (x ∷ y ∷ ys) (y ∷ put_in before x ys) (to_keys kept x (y ∷ ys) h, d)
-      (to_keys kept y (put_in before x ys) (all_put (IsApart kept y) x ys (eq_flips (kept x) (kept y) h.0) (from_keys kept y ys d.0)), distinct_put x ys h.1 d.1)
+      (to_keys kept y (put_in before x ys) (all_put (IsApart kept y) before x ys (eq_flips (kept x) (kept y) h.0) (from_keys kept y ys d.0)), distinct_put x ys h.1 d.1)
 
   -- what is apart from all that is in order, and from x, is apart from all with x in its place
   crossed : (x : T) (ys xs : List T) → AllByRecursion (λ z. AllByRecursion (IsApart kept z) ys) xs → AllByRecursion (IsApart kept x) xs → AllByRecursion (λ z. AllByRecursion (IsApart kept z) (put_in before x ys)) xs
   crossed x ys [] h k = tt
-  crossed x ys (z ∷ xs) h k = (all_put (IsApart kept z) x ys (eq_flips (kept x) (kept z) k.0) h.0, crossed x ys xs h.1 k.1)
+  crossed x ys (z ∷ xs) h k = (all_put (IsApart kept z) before x ys (eq_flips (kept x) (kept z) k.0) h.0, crossed x ys xs h.1 k.1)
 
   distinct_onto : (ys xs : List T) → IsDistinct nat_eq (map kept ys) → IsDistinct nat_eq (map kept xs) → AllByRecursion (λ z. AllByRecursion (IsApart kept z) ys) xs → IsDistinct nat_eq (map kept (fold (λ zs x. put_in before x zs) ys xs))
   unfolding IsDistinct
@@ -77,19 +57,15 @@ module _ {T K : Type 0} (key : T → K) (cmp : K → K → Ordering) (before : T
   all_nothing (x ∷ xs) = (tt, all_nothing xs)
 
   pub in_order_distinct : (xs : List T) → IsDistinct nat_eq (map kept xs) → IsDistinct nat_eq (map kept (in_order before xs))
-  unfolding IsDistinct
+  unfolding IsDistinct in_order
   in_order_distinct xs d = distinct_onto [] xs tt d (all_nothing xs)
 
   -- one more thing in order, by its key alone, and with its key
   pub keys_step : (xs : List T) (i : ℕ) (d : T) (ks ks' : List K) → IsDistinct nat_eq (map kept xs) → i < length xs →
       ks ≡ map key (in_order before (take i xs)) → ks' ≡ insert_key cmp ks (key (get_or xs i d)) → ks' ≡ map key (in_order before (take (i + 1) xs))
+  unfolding in_order
   keys_step xs i d ks ks' h l e p =
-      p ∙ rw (e, fold_more (λ ys x. put_in before x ys) [] xs i d l) (key_put (get_or xs i d) (in_order before (take i xs)) (all_onto (IsApart kept (get_or xs i d)) [] (take i xs) tt (apart_before kept xs i d h l)))
-
-  pub entries_step : (xs : List T) (i : ℕ) (d : T) (es es' : List (K × T)) → IsDistinct nat_eq (map kept xs) → i < length xs →
-      es ≡ map (λ y. (key y, y)) (in_order before (take i xs)) → es' ≡ insert_entry cmp es (key (get_or xs i d)) (get_or xs i d) → es' ≡ map (λ y. (key y, y)) (in_order before (take (i + 1) xs))
-  entries_step xs i d es es' h l e p =
-      p ∙ rw (e, fold_more (λ ys x. put_in before x ys) [] xs i d l) (entry_put (get_or xs i d) (in_order before (take i xs)) (all_onto (IsApart kept (get_or xs i d)) [] (take i xs) tt (apart_before kept xs i d h l)))
+      p ∙ rw (e, fold_more (λ ys x. put_in before x ys) [] xs i d l) (key_put (get_or xs i d) (in_order before (take i xs)) (all_onto (IsApart kept (get_or xs i d)) before [] (take i xs) tt (apart_before kept xs i d h l)))
 
 -- ---- groups by rank
 
@@ -120,9 +96,6 @@ rank_agrees g h e = elim (two (h.id.0 == 1)) [
   ]
 ]
 
-pub handle_agrees : (r q : Request) → IsApart request_handle r q → nat_cmp r.id.0 q.id.0 ≡ (if nat_lt r.id.0 q.id.0 then Less else Greater)
-handle_agrees r q e = nat_ranked r.id.0 q.id.0 e
-
 -- ---- what is read out of the trees
 
 ids_mapped : {s : ℕ} (gs : List (Group s)) → map (λ (r : Rank). record { 0 = r.2 }) (map rank_of gs) ≡ map (λ g. g.id) gs
@@ -131,31 +104,6 @@ ids_mapped (g ∷ gs) = ap (λ ids. g.id ∷ ids) (ids_mapped gs)
 
 pub ids_of_ranks : {s : ℕ} (gs : List (Group s)) (i : ℕ) (ks : List Rank) → ks ≡ map rank_of (groups_in_order (take i gs)) → length gs ≤ i → map (λ (r : Rank). record { 0 = r.2 }) ks ≡ group_order gs
 ids_of_ranks gs i ks e l = rw (e, take_all i gs l) (ids_mapped (groups_in_order gs))
-
-abbrev pub with_handle : Request → ℕ × Request
-with_handle r = (request_handle r, r)
-
-values_mapped : (rs : List Request) → values_of (map with_handle rs) ≡ rs
-values_mapped [] = refl
-values_mapped (r ∷ rs) = ap (λ qs. r ∷ qs) (values_mapped rs)
-
-keys_mapped : (rs : List Request) → keys_of (map with_handle rs) ≡ map request_handle rs
-keys_mapped [] = refl
-keys_mapped (r ∷ rs) = ap (λ qs. request_handle r ∷ qs) (keys_mapped rs)
-
-pub requests_read : (rs : List Request) (i : ℕ) (es : List (ℕ × Request)) → es ≡ map with_handle (requests_in_order (take i rs)) → length rs ≤ i → values_of es ≡ requests_in_order rs
-requests_read rs i es e l = rw (e, take_all i rs l) (values_mapped (requests_in_order rs))
-
-pub requests_rise : (rs : List Request) (i : ℕ) (es : List (ℕ × Request)) (qs left : List Request) → es ≡ map with_handle (requests_in_order (take i rs)) → length rs ≤ i → IsStrictlySortedBy nat_cmp (keys_of es) →
-    qs ++ left ≡ requests_in_order rs → left ≡ [] → IsStrictlySortedBy nat_cmp (map request_handle qs)
-requests_rise rs i es qs left e l h p n =
-    let q = rw (n, append-nil qs) at p in
-    rw q (rw (e, take_all i rs l, keys_mapped (requests_in_order rs)) at h)
-
-pub requests_known : (rs qs left : List Request) → qs ++ left ≡ requests_in_order rs → left ≡ [] → All IsCheckedRequest rs → All IsCheckedRequest qs
-requests_known rs qs left p n h =
-    let q = rw (n, append-nil qs) at p in
-    rw q (All-from_recursion IsCheckedRequest (requests_in_order rs) (all_onto request_handle nat_cmp (λ (r : Request) (q : Request). nat_lt r.id.0 q.id.0) request_handle handle_agrees IsCheckedRequest [] rs tt (recursion_from_All IsCheckedRequest rs h)))
 
 places_mapped : {s : ℕ} (gs : List (Group s)) → map place_handle (map (λ g. g.id) gs) ≡ map group_handle gs
 places_mapped [] = refl
@@ -180,7 +128,12 @@ onto_length : {T : Type 0} (before : T → T → Bool) (ys xs : List T) → leng
 onto_length before ys [] = omega arith
 onto_length before ys (x ∷ xs) = let rest = onto_length before (put_in before x ys) xs in let one = put_length before x ys in omega arith
 
+pub in_order_length : {T : Type 0} (before : T → T → Bool) (xs : List T) → length (in_order before xs) ≡ length xs
+unfolding in_order
+in_order_length before xs = let all = onto_length before [] xs in omega (arith, all)
+
 pub order_length : {s : ℕ} (gs : List (Group s)) (order : List GroupId) (left : List Rank) → order ++ map (λ (r : Rank). record { 0 = r.2 }) left ≡ group_order gs → left ≡ [] → length order ≡ length gs
+unfolding in_order
 order_length gs order left p n =
     let q = rw (n, append-nil order) at p in
     let all = onto_length comes_before [] gs in

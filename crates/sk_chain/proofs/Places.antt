@@ -1,10 +1,9 @@
 -- Places of groups in a row, thing by thing.
-use Rattle.std.proofs.Common.{◌≡◌, inl, inr, ℕ, suc, ◌+◌, ◌<◌, ◌≤◌, List, [], ◌∷◌, length, map, Bool, true, false, cond, nat_eq, nat_lt, Option, Some, None, refl, sym, ◌∙◌, arith}
-use Rattle.std.specs.Prelude.{if◌then◌else◌, is_none}
+use Rattle.std.proofs.Common.{◌≡◌, inl, inr, ℕ, suc, ◌+◌, ◌<◌, ◌≤◌, List, [], ◌∷◌, length, map, Bool, true, false, cond, nat_eq, nat_lt, Some, None, refl, arith}
+use Rattle.std.specs.Prelude.{if◌then◌else◌}
 use Rattle.std.specs.Option.{option_map}
-use Rattle.std.specs.List.{AllByRecursion, IsDistinct, position, position_or_len}
+use Rattle.std.specs.List.{AllByRecursion, position, position_or_len}
 use Rattle.std.proofs.lemmas.Bool.{lt-ltb, le-ltb, ltb-true, ltb-false}
-use Rattle.std.proofs.lemmas.Bool.Decides.{nat_tests}
 use Rattle.sk_types.specs.declared.handle.GroupId.{GroupId}
 use Rattle.sk_chain.specs.Known.{place_handle}
 use Rattle.sk_chain.specs.Lookups.{place_in}
@@ -32,28 +31,7 @@ position_cons p x xs = elim (two (p x)) [
 pub place_cons : (n : ℕ) (g : GroupId) (gs : List GroupId) → place_in n (g ∷ gs) ≡ (if nat_eq n g.0 then Some 0 else option_map suc (place_in n gs))
 place_cons n g gs = position_cons (λ (h : GroupId). nat_eq n h.0) g gs
 
-none_mapped : (o : Option ℕ) → is_none (option_map suc o) ≡ is_none o
-none_mapped None = refl
-none_mapped (Some n) = refl
-
 -- a number that no handle of the row is has no place
 pub no_place : (n : ℕ) (gs : List GroupId) → AllByRecursion (λ k. nat_eq n k ≡ false) (map place_handle gs) → place_in n gs ≡ None
 no_place n [] h = refl
 no_place n (g ∷ gs) h = rw (place_cons n g gs, h.0, no_place n gs h.1) refl
-
--- in a row without repeats one group alone has the number, if any
-abbrev pub share : ℕ → ℕ → List GroupId → ℕ
-share k n [] = 0
-share k n (g ∷ gs) = (if nat_eq n g.0 then k else 0) + share k n gs
-
-no_share : (k n : ℕ) (gs : List GroupId) → AllByRecursion (λ m. nat_eq n m ≡ false) (map place_handle gs) → share k n gs ≡ 0
-no_share k n [] h = refl
-no_share k n (g ∷ gs) h = rw (h.0, no_share k n gs h.1) refl
-
-pub share_one : (k n : ℕ) (gs : List GroupId) → IsDistinct nat_eq (map place_handle gs) → is_none (place_in n gs) ≡ false → share k n gs ≡ k
-unfolding IsDistinct
-share_one k n [] d h = absurd (cc)
-share_one k n (g ∷ gs) d h = elim (two (nat_eq n g.0)) [
-  | inl e ↦ let same : n ≡ g.0 = grind (arith, nat_tests, e) in rw (e, no_share k n gs (rw same d.0)) (omega arith)
-  | inr e ↦ let there = rw (place_cons n g gs, e) at h in rw (e, share_one k n gs d.1 (sym (none_mapped (place_in n gs)) ∙ there)) (omega arith)
-]

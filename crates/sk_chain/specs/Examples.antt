@@ -1,91 +1,283 @@
--- The definitions on small inputs.
-use Rattle.std.specs.Prelude.{◌≡◌, ℕ, ℤ, pos, negsuc, List, [], ◌∷◌, map, false, Err, refl}
+-- The definitions on small models.
+use Rattle.std.specs.Prelude.{◌≡◌, ℕ, ◌+◌, ◌*◌, ◌^◌, ℤ, pos, negsuc, List, [], ◌∷◌, ◌++◌, map, Bool, true, false, Option, Some, None, Result, Ok, Err, refl}
+use Rattle.sk_types.specs.declared.handle.EntityId.{EntityId}
 use Rattle.sk_types.specs.declared.handle.GroupId.{GroupId}
-use Rattle.sk_types.specs.declared.group.Group.{Group}
-use Rattle.sk_types.specs.declared.group.GroupKind.TheVariants.{Space}
-use Rattle.sk_types.specs.declared.request.Request.{Request}
 use Rattle.sk_types.specs.declared.constraint.Constraint.{Constraint}
 use Rattle.sk_types.specs.declared.entity.Entity.{Entity}
-use Rattle.sk_types.specs.Needs.{needs_of, part_takes}
+use Rattle.sk_types.specs.declared.entity.Numbering.TheVariants.{Placed}
+use Rattle.sk_types.specs.declared.group.Group.{Group}
+use Rattle.sk_types.specs.declared.group.GroupKind.{GroupKind}
+use Rattle.sk_types.specs.declared.group.GroupKind.TheVariants.{Space, Plane, Extrude, Translate, Linked}
+use Rattle.sk_types.specs.declared.group.RemapEntry.{RemapEntry}
+use Rattle.sk_types.specs.declared.request.Request.{Request}
+use Rattle.sk_types.specs.Needs.{circles_of, needs_of, part_takes}
 use Rattle.sk_entity.specs.Requests.{request_entities}
-use Rattle.sk_model.specs.declared.faults.ModelFault.TheVariants.{NoSuch, Ahead, BadValue}
+use Rattle.sk_copy.specs.Copies.{copies}
+use Rattle.sk_copy.specs.Order.{in_order}
+use Rattle.sk_model.specs.declared.faults.ModelFault.{ModelFault}
+use Rattle.sk_model.specs.declared.faults.ModelFault.TheVariants.{NoSuch, Ahead, BadValue, TooMany}
+use Rattle.sk_model.specs.declared.faults.What.TheVariants as what
+use Rattle.sk_model.specs.declared.remap.GroupList.{GroupList}
 use Rattle.sk_model.specs.Typed.{Typed}
+use Rattle.sk_link.specs.declared.parts.Part.{Part}
+use Rattle.sk_chain.specs.Dependence.{depends}
+use Rattle.sk_chain.specs.Made.{made_by, names_fault}
 use Rattle.sk_chain.specs.Order.{group_order}
-use Rattle.sk_chain.specs.Outlines.{all_made, groups_fault, entities_fault, outlined}
+use Rattle.sk_chain.specs.Outlines.{Outlined, entities_fault, groups_fault, groups_made, lists_in, outlined, relisted}
 
--- a drawing in space with this handle and order
-abbrev group_of : ℕ → ℤ → Group 36
-group_of id order = record {
+abbrev at : ℕ → EntityId
+at h = record { 0 = h }
+
+-- ---- groups
+
+abbrev group_of : ℕ → ℤ → GroupKind → ℕ → ℕ → ℕ → Group 36
+group_of id order kind source origin entity_b = record {
   id = record { 0 = id };
-  kind = Space;
+  kind = kind;
   order = order;
-  active = record { 0 = 0 };
-  source = record { 0 = 0 };
-  copies = 0;
+  active = at 0;
+  source = record { 0 = source };
+  copies = 2;
   two_sided = false;
   skip_first = false;
   by_lines = false;
-  quaternion = pos 0 ∷ pos 0 ∷ pos 0 ∷ pos 0 ∷ [];
-  origin = record { 0 = 0 };
-  entity_b = record { 0 = 0 };
-  entity_c = record { 0 = 0 };
+  quaternion = pos 1 ∷ pos 0 ∷ pos 0 ∷ pos 0 ∷ [];
+  origin = at origin;
+  entity_b = at entity_b;
+  entity_c = at 0;
   swap_uv = false;
   negate_u = false;
   negate_v = false;
-  scale = pos 0;
+  scale = pos (2 * 2 ^ 36);
   remap = [];
   part = [];
 }
+
+abbrev space : ℕ → ℕ → Group 36
+space id order = group_of id (pos order) Space 0 0 0
+
+abbrev handles : List GroupId → List ℕ
+handles gs = map (λ (g : GroupId). g.0) gs
+
+-- group 1 before all, however high its order; groups 2 and 4 have the same
+order_of_four : handles (group_order (space 4 1 ∷ space 2 1 ∷ group_of 3 (negsuc 1) Space 0 0 0 ∷ space 1 9 ∷ [])) ≡ 1 ∷ 3 ∷ 2 ∷ 4 ∷ []
+unfolding in_order
+order_of_four = refl
+
+-- ---- requests and constraints
 
 abbrev request_of : ℕ → ℕ → ℕ → ℕ → Request
 request_of id kind group workplane = record {
   id = record { 0 = id };
   kind = kind;
   group = record { 0 = group };
-  workplane = record { 0 = workplane };
+  workplane = at workplane;
   construction = false;
   extra = 0;
 }
 
--- a constraint between two points of group 2, in the first workplane
-abbrev constraint_of : ℕ → ℕ → ℕ → Constraint 36
-constraint_of kind p q = record {
-  id = record { 0 = 7 };
+abbrev constraint_of : ℕ → ℕ → ℕ → ℕ → ℕ → ℕ → Constraint 36
+constraint_of id kind group workplane p q = record {
+  id = record { 0 = id };
   kind = kind;
-  group = record { 0 = 2 };
-  workplane = record { 0 = 65536 };
+  group = record { 0 = group };
+  workplane = at workplane;
   value = pos 0;
-  points = record { 0 = p } ∷ record { 0 = q } ∷ [];
-  entities = record { 0 = 0 } ∷ record { 0 = 0 } ∷ record { 0 = 0 } ∷ record { 0 = 0 } ∷ [];
+  points = at p ∷ at q ∷ [];
+  entities = at 0 ∷ at 0 ∷ at 0 ∷ at 0 ∷ [];
   other = false;
   other2 = false;
   reference = false;
 }
 
--- group 1 before all, however high its order; groups 2 and 4 have the same
-order_of_four : map (λ (g : GroupId). g.0) (group_order (group_of 4 (pos 1) ∷ group_of 2 (pos 1) ∷ group_of 3 (negsuc 1) ∷ group_of 1 (pos 9) ∷ [])) ≡ 1 ∷ 3 ∷ 2 ∷ 4 ∷ []
-order_of_four = refl
+abbrev line_constraint : ℕ → ℕ → ℕ → Constraint 36
+line_constraint kind group line = record (constraint_of 7 kind group 0 0 0) { entities = at line ∷ at 0 ∷ at 0 ∷ at 0 ∷ [] }
 
--- a workplane, and two points in it, of groups 2 and 3
+-- ---- a model: workplane 1 of group 1; line 4 of group 2, in the workplane; a point 5 of group 4, in space
+
+abbrev plane : ℕ
+plane = 65536
+
+abbrev line : ℕ
+line = 262144
+
+-- its first point
+abbrev end : ℕ
+end = 262145
+
+abbrev point : ℕ
+point = 327680
+
+-- item i of group g
+abbrev made : ℕ → ℕ → ℕ
+made g i = 2 ^ 31 + g * 65536 + i
+
 abbrev drawn : List Request
-drawn = request_of 1 100 1 0 ∷ request_of 5 101 3 65536 ∷ request_of 4 101 2 65536 ∷ []
+drawn = request_of 1 100 1 0 ∷ request_of 5 101 4 0 ∷ request_of 4 200 2 plane ∷ []
 
-handles_made : map (λ (e : Entity 36). e.id.0) (all_made 36 (request_of 5 101 3 65536 ∷ request_of 4 101 2 65536 ∷ [])) ≡ 262144 ∷ 327680 ∷ []
-unfolding request_entities
-handles_made = refl
+-- with a group 3 between groups 2 and 4
+abbrev model_with : Group 36 → List (Constraint 36) → Typed 36
+model_with g cs = record { groups = space 4 3 ∷ g ∷ space 2 1 ∷ space 1 0 ∷ []; params = []; requests = drawn; constraints = cs }
 
-abbrev model_of : Constraint 36 → Typed 36
-model_of c = record { groups = group_of 1 (pos 0) ∷ group_of 2 (pos 1) ∷ group_of 3 (pos 2) ∷ []; params = []; requests = drawn; constraints = c ∷ [] }
+abbrev third : GroupKind → ℕ → ℕ → ℕ → Group 36
+third kind source origin entity_b = group_of 3 (pos 2) kind source origin entity_b
 
--- points 262144 of group 2 and 327680 of group 3, item 1 of nothing, and the workplane itself
-point_missing : outlined 36 (model_of (constraint_of 30 262144 327681)) ≡ Err (NoSuch 7 327681)
-unfolding outlined groups_fault entities_fault request_entities needs_of part_takes
-point_missing = refl
+abbrev fault_in : Result (Outlined 36) ModelFault → Option ModelFault
+fault_in (Ok o) = None
+fault_in (Err f) = Some f
 
-point_ahead : outlined 36 (model_of (constraint_of 30 262144 327680)) ≡ Err (Ahead 7 327680)
-unfolding outlined groups_fault entities_fault request_entities needs_of part_takes
-point_ahead = refl
+abbrev fault_with : Group 36 → List (Constraint 36) → Option ModelFault
+fault_with g cs = fault_in (outlined [] (model_with g cs))
 
-point_of_wrong_kind : outlined 36 (model_of (constraint_of 30 262144 65536)) ≡ Err (BadValue 7)
-unfolding outlined groups_fault entities_fault request_entities needs_of part_takes
-point_of_wrong_kind = refl
+-- ---- what group 3 names
+
+-- an origin: none, a request that isn't there, an item that a request hasn't, the group's own, a later request's, a later
+-- group's, a line, and the end of the line
+origins : map (λ (h : ℕ). fault_with (third Plane 0 h 0) []) (0 ∷ 589824 ∷ 262150 ∷ made 3 2 ∷ point ∷ made 4 0 ∷ made 9 0 ∷ line ∷ end ∷ []) ≡
+    Some (NoSuch 3 0) ∷ Some (NoSuch 3 589824) ∷ Some (NoSuch 3 262150) ∷ Some (Ahead 3 (made 3 2)) ∷ Some (Ahead 3 point) ∷ Some (Ahead 3 (made 4 0)) ∷ Some (NoSuch 3 (made 9 0)) ∷ Some (BadValue 3) ∷ None ∷ []
+unfolding outlined groups_made groups_fault entities_fault names_fault made_by copies request_entities needs_of circles_of part_takes in_order
+origins = refl
+
+-- its lines count only where they are to give the frame: the first line, then the second; the origin comes before them
+abbrev by_lines : ℕ → ℕ → ℕ → Group 36
+by_lines origin b c = record (third Plane 0 origin b) { by_lines = true; entity_c = at c }
+
+lines_of_a_frame : map (λ (g : Group 36). fault_with g []) (third Plane 0 end 7 ∷ by_lines end line line ∷ by_lines end 7 8 ∷ by_lines end line 8 ∷ by_lines end end line ∷ by_lines 9 7 8 ∷ []) ≡
+    None ∷ None ∷ Some (NoSuch 3 7) ∷ Some (NoSuch 3 8) ∷ Some (BadValue 3) ∷ Some (NoSuch 3 9) ∷ []
+unfolding outlined groups_made groups_fault entities_fault names_fault made_by copies request_entities needs_of circles_of part_takes in_order
+lines_of_a_frame = refl
+
+-- a source: none, one that isn't there, the group itself, a later one, an earlier one, and group 1
+sources : map (λ (n : ℕ). fault_with (third Extrude n 0 0) []) (0 ∷ 9 ∷ 3 ∷ 4 ∷ 2 ∷ 1 ∷ []) ≡ Some (NoSuch 3 0) ∷ Some (NoSuch 3 9) ∷ Some (Ahead 3 3) ∷ Some (Ahead 3 4) ∷ None ∷ None ∷ []
+unfolding outlined groups_made groups_fault entities_fault names_fault made_by copies request_entities needs_of circles_of part_takes in_order
+sources = refl
+
+-- a workplane: none, the first one, a point, and one that is ahead; the source comes before it; an origin isn't looked at
+planes : map (λ (g : Group 36). fault_with g []) (third Translate 2 7 0 ∷ third Translate 2 0 plane ∷ third Translate 2 0 end ∷ third Translate 2 0 (made 3 0) ∷ third Extrude 4 0 end ∷ []) ≡
+    None ∷ None ∷ Some (BadValue 3) ∷ Some (Ahead 3 (made 3 0)) ∷ Some (Ahead 3 4) ∷ []
+unfolding outlined groups_made groups_fault entities_fault names_fault made_by copies request_entities needs_of circles_of part_takes in_order
+planes = refl
+
+-- ---- what group 3 makes
+
+abbrev entry : ℕ → ℕ → ℕ → RemapEntry
+entry number source copy = record { number = number; source = at source; copy = copy }
+
+-- a list with the greatest number is full, if a copy lacks; a full list comes before a number that passes the limit
+abbrev stored : ℕ → ℕ → ℤ → Entity 36
+stored h kind z = record { id = at h; kind = kind; group = record { 0 = 0 }; construction = false; points = []; normal = at 0; distance = at 0; workplane = at 0; numbers = Placed (z ∷ pos 0 ∷ pos 0 ∷ pos 0 ∷ []) }
+
+abbrev part_of : ℤ → List (Part 36)
+part_of z = record { group = record { 0 = 3 }; entities = stored 9 2000 z ∷ [] } ∷ []
+
+abbrev linked_with : List RemapEntry → Group 36
+linked_with list = record (third Linked 0 0 0) { remap = list }
+
+abbrev linked_fault : ℤ → List RemapEntry → Option ModelFault
+linked_fault z list = fault_in (outlined (part_of z) (model_with (linked_with list) []))
+
+parts_are_copied :
+    linked_fault (pos 1) [] ∷ linked_fault (pos 1) (entry 65535 7 0 ∷ []) ∷ linked_fault (pos 1) (entry 65535 9 0 ∷ []) ∷ linked_fault (pos (2 ^ 62)) [] ∷ linked_fault (pos (2 ^ 62)) (entry 65535 7 0 ∷ []) ∷ [] ≡
+    None ∷ Some (TooMany what.Remap) ∷ None ∷ Some (BadValue 3) ∷ Some (TooMany what.Remap) ∷ []
+unfolding outlined groups_made groups_fault entities_fault names_fault made_by copies request_entities needs_of circles_of part_takes in_order
+parts_are_copied = refl
+
+abbrev list_told : GroupList → ℕ × List (ℕ × (ℕ × ℕ))
+list_told x = (x.group.0, map (λ (e : RemapEntry). (e.number, (e.source.0, e.copy))) x.entries)
+
+abbrev lists_told : Result (Outlined 36) ModelFault → List (ℕ × List (ℕ × (ℕ × ℕ)))
+lists_told r = map list_told (lists_in r)
+
+-- the copies of group 4's point by a translation behind it go on from its list; every group has a list
+abbrev moved : Typed 36
+moved = model_with (record (group_of 3 (pos 9) Translate 4 0 0) { remap = entry 3 point 1000 ∷ [] }) []
+
+lists_of_moved : lists_told (outlined [] moved) ≡ (1, []) ∷ (2, []) ∷ (4, []) ∷ (3, (3, (point, 1000)) ∷ (4, (point, 0)) ∷ []) ∷ []
+unfolding outlined groups_made groups_fault entities_fault names_fault made_by copies request_entities needs_of circles_of part_takes in_order
+lists_of_moved = refl
+
+abbrev entities_told : Result (Outlined 36) ModelFault → List (ℕ × ℕ)
+entities_told (Ok o) = map (λ (e : Entity 36). (e.id.0, e.kind)) o.outline.entities
+entities_told (Err f) = []
+
+-- all entities by rising handle, not group by group
+entities_of_moved : entities_told (outlined [] moved) ≡
+    (65536, 10000) ∷ (65537, 2000) ∷ (65568, 3000) ∷ (line, 11000) ∷ (end, 2001) ∷ (262146, 2001) ∷ (point, 2000) ∷ (made 3 3, 2010) ∷ (made 3 4, 2010) ∷ []
+unfolding outlined groups_made groups_fault entities_fault names_fault made_by copies request_entities needs_of circles_of part_takes in_order
+entities_of_moved = refl
+
+-- over the lists that it has then it is the same
+moved_again : outlined [] (relisted (lists_in (outlined [] moved)) moved) ≡ outlined [] moved
+unfolding outlined groups_made groups_fault entities_fault names_fault made_by copies request_entities needs_of circles_of part_takes in_order
+moved_again = refl
+
+-- ---- what requests and constraints name
+
+abbrev fault_of : List Request → List (Constraint 36) → Option ModelFault
+fault_of rs cs = fault_in (outlined [] (record { groups = third Space 0 0 0 ∷ space 4 3 ∷ space 2 1 ∷ space 1 0 ∷ []; params = []; requests = drawn ++ rs; constraints = cs }))
+
+-- a group that isn't there: of a request, then of a constraint; before what groups name
+groups_there : fault_of (request_of 6 101 8 0 ∷ []) (constraint_of 7 30 9 0 0 0 ∷ []) ∷ fault_of [] (constraint_of 7 30 9 0 0 0 ∷ []) ∷ fault_in (outlined [] (model_with (third Plane 0 0 0) (constraint_of 7 30 9 0 0 0 ∷ []))) ∷ [] ≡
+    Some (NoSuch 6 8) ∷ Some (NoSuch 7 9) ∷ Some (NoSuch 7 9) ∷ []
+unfolding outlined groups_made groups_fault entities_fault names_fault made_by copies request_entities needs_of circles_of part_takes in_order
+groups_there = refl
+
+-- the workplane of a request in group 2: not there, a point, of a later group, and of its own group
+workplanes : map (λ (h : ℕ). fault_of (request_of 6 101 2 h ∷ request_of 7 100 3 0 ∷ request_of 8 100 2 0 ∷ []) (constraint_of 9 30 2 0 0 0 ∷ [])) (8 ∷ end ∷ 458752 ∷ 524288 ∷ []) ≡
+    Some (NoSuch 6 8) ∷ Some (BadValue 6) ∷ Some (Ahead 6 458752) ∷ Some (BadValue 9) ∷ []
+unfolding outlined groups_made groups_fault entities_fault names_fault made_by copies request_entities needs_of circles_of part_takes in_order
+workplanes = refl
+
+-- a constraint in group 2: its workplane before its points, point A before point B; none is needed as a workplane; a reference too
+constraints : map (λ (c : Constraint 36). fault_of [] (c ∷ [])) (
+    constraint_of 7 30 2 9 8 0 ∷ constraint_of 7 30 2 0 0 8 ∷ constraint_of 7 30 2 0 8 0 ∷ constraint_of 7 30 2 plane end point ∷ constraint_of 7 30 4 plane end point ∷ constraint_of 7 30 2 0 end line ∷
+    record (constraint_of 7 30 2 0 end 8) { reference = true } ∷ line_constraint 50 2 line ∷ line_constraint 80 2 line ∷ line_constraint 80 2 end ∷ []) ≡
+    Some (NoSuch 7 9) ∷ Some (BadValue 7) ∷ Some (NoSuch 7 8) ∷ Some (Ahead 7 point) ∷ None ∷ Some (BadValue 7) ∷
+    Some (NoSuch 7 8) ∷ Some (BadValue 7) ∷ None ∷ Some (BadValue 7) ∷ []
+unfolding outlined groups_made groups_fault entities_fault names_fault made_by copies request_entities needs_of circles_of part_takes in_order
+constraints = refl
+
+-- ---- what depends on what
+
+abbrev model_of : Group 36 → List Request → List (Constraint 36) → Typed 36
+model_of g rs cs = record { groups = space 4 3 ∷ g ∷ space 2 1 ∷ space 1 0 ∷ []; params = []; requests = drawn ++ rs; constraints = cs }
+
+abbrev third_depends : Typed 36 → Result (Outlined 36) ModelFault → List Bool
+third_depends m (Err f) = []
+third_depends m (Ok o) = map (λ (n : ℕ). depends m o.outline.entities (record { 0 = 3 }) (record { 0 = n })) (1 ∷ 2 ∷ 3 ∷ 4 ∷ [])
+
+-- whether group 3 depends on groups 1 to 4
+abbrev depends_told : Group 36 → List Request → List (Constraint 36) → List Bool
+depends_told g rs cs = third_depends (model_of g rs cs) (outlined [] (model_of g rs cs))
+
+abbrev none : List Bool
+none = false ∷ false ∷ false ∷ false ∷ []
+
+abbrev on_first : List Bool
+on_first = true ∷ false ∷ false ∷ false ∷ []
+
+abbrev on_second : List Bool
+on_second = false ∷ true ∷ false ∷ false ∷ []
+
+abbrev on_last : List Bool
+on_last = false ∷ false ∷ false ∷ true ∷ []
+
+-- by its source, its origin, entities B and C, in a group of any kind, also on a later group; by what isn't there on none
+by_fields : map (λ (g : Group 36). depends_told g [] []) (
+    third Space 0 0 0 ∷ third Space 2 0 0 ∷ third Space 0 end 0 ∷ third Space 0 0 plane ∷ record (third Space 0 0 0) { entity_c = at line } ∷ third Space 0 point 0 ∷ third Space 4 0 0 ∷ third Space 9 262150 0 ∷
+    record (third Space 0 0 0) { active = at plane } ∷ []) ≡ none ∷ on_second ∷ on_second ∷ on_first ∷ on_second ∷ on_last ∷ on_last ∷ none ∷ none ∷ []
+unfolding outlined groups_made groups_fault entities_fault names_fault made_by copies request_entities needs_of circles_of part_takes in_order depends
+by_fields = refl
+
+-- by the workplane of a request, and the workplane and the parts of a constraint, of a reference too; by what a constraint names and
+-- doesn't need on none
+by_things :
+    depends_told (third Space 0 0 0) (request_of 6 101 3 plane ∷ []) [] ∷
+    depends_told (third Space 0 0 0) [] (constraint_of 7 1000 3 plane 0 0 ∷ []) ∷
+    depends_told (third Space 0 0 0) [] (line_constraint 80 3 line ∷ []) ∷
+    depends_told (third Space 0 0 0) [] (record (line_constraint 80 3 line) { reference = true } ∷ []) ∷
+    depends_told (third Space 0 0 0) [] (constraint_of 7 1000 3 0 end end ∷ []) ∷
+    depends_told (third Space 0 0 0) (request_of 6 101 4 plane ∷ []) (line_constraint 80 4 line ∷ []) ∷ [] ≡
+    on_first ∷ on_first ∷ on_second ∷ on_second ∷ none ∷ none ∷ []
+unfolding outlined groups_made groups_fault entities_fault names_fault made_by copies request_entities needs_of circles_of part_takes in_order depends
+by_things = refl

@@ -1,6 +1,10 @@
 pub mod Order
 pub mod Lookups
+pub mod Made
 pub mod Outlines
 pub mod Known
 pub mod Counts
+pub mod Lent
+pub mod Laws
+pub mod Dependence
 pub mod Examples

@@ -1,7 +1,6 @@
--- The outline of a model: the order of its groups and all its entities, or the first fault of what it names (SolveSpace's file format).
-use Rattle.std.specs.Prelude.{ℕ, ◌==◌, ◌+◌, nat_lt, List, [], ◌∷◌, length, Option, Some, None, Bool, false, not, is_none, if◌then◌else◌, Result, Ok}
+-- The outline of a model: the order of its groups, all entities, and the remap lists extended; or the first fault (SolveSpace's file format).
+use Rattle.std.specs.Prelude.{ℕ, ◌==◌, nat_lt, List, [], ◌∷◌, map, Option, Some, None, Bool, false, not, is_none, if◌then◌else◌, Result, Ok, Err}
 use Rattle.std.specs.Option.{option_or}
-use Rattle.std.specs.List.{filter, flat_map}
 use Rattle.sk_types.specs.declared.handle.EntityId.{EntityId}
 use Rattle.sk_types.specs.declared.handle.GroupId.{GroupId}
 use Rattle.sk_types.specs.declared.constraint.Constraint.{Constraint}
@@ -15,14 +14,19 @@ use Rattle.sk_types.specs.declared.request.Request.{Request}
 use Rattle.sk_types.specs.Lookups.{entity_at}
 use Rattle.sk_types.specs.Needs.{needs_of, part_takes}
 use Rattle.sk_types.specs.Sizes.{unknowns_of, rows_of}
-use Rattle.sk_entity.specs.Requests.{request_entities}
+use Rattle.sk_copy.specs.Order.{by_handle}
 use Rattle.sk_model.specs.declared.faults.ModelFault.{ModelFault}
 use Rattle.sk_model.specs.declared.faults.ModelFault.TheVariants.{NoSuch, Ahead, BadValue, TooMany}
 use Rattle.sk_model.specs.declared.faults.What.TheVariants as what
-use Rattle.sk_model.specs.Chain.{unless}
+use Rattle.sk_model.specs.declared.remap.GroupList.{GroupList}
+use Rattle.sk_model.specs.Chain.{then_of, unless}
+use Rattle.sk_model.specs.Changes.{with_lists}
 use Rattle.sk_model.specs.Typed.{Typed, fault_if}
-use Rattle.sk_chain.specs.Order.{group_order, groups_in_order, requests_in_order}
+use Rattle.sk_link.specs.declared.parts.Part.{Part}
+use Rattle.sk_chain.specs.declared.made.Made.{Made}
+use Rattle.sk_chain.specs.Order.{group_order, groups_in_order}
 use Rattle.sk_chain.specs.Lookups.{place_in}
+use Rattle.sk_chain.specs.Made.{all_made, made_from}
 
 -- the first fault of things in a row
 abbrev pub first_fault : {T : Type 0} → (T → Option ModelFault) → List T → Option ModelFault
@@ -40,23 +44,6 @@ request_group_fault order r = group_fault order r.id.0 r.group
 
 abbrev pub constraint_group_fault : {s : ℕ} → List GroupId → Constraint s → Option ModelFault
 constraint_group_fault order c = group_fault order c.id.0 c.group
-
--- ---- entities that are made
-
--- by a group: those of its requests, and no others in a drawing in space
-abbrev pub made_by : (s : ℕ) → List Request → Group s → List (Entity s)
-made_by s rs g = flat_map (request_entities s) (filter (λ r. r.group.0 == g.id.0) rs)
-
--- group by group, behind so many entities of earlier groups
-abbrev pub made_fault : (s : ℕ) → List Request → ℕ → List (Group s) → Option ModelFault
-made_fault s rs n [] = None
-made_fault s rs n (g ∷ gs) =
-    let more = n + length (made_by s rs g) in
-    option_or (fault_if (nat_lt 200000 more) (TooMany what.Entities)) (made_fault s rs more gs)
-
--- all of them in rising handle order
-abbrev pub all_made : (s : ℕ) → List Request → List (Entity s)
-all_made s rs = flat_map (request_entities s) (requests_in_order rs)
 
 -- ---- entities that are named
 
@@ -101,24 +88,50 @@ size_fault cs es g = option_or
 
 -- ---- the whole
 
--- groups that are named have to be there; then the groups make their entities
-unfoldable pub groups_fault : (s : ℕ) → Typed s → List GroupId → Option ModelFault
-groups_fault s m order =
-    option_or (first_fault (request_group_fault order) m.requests) (
-    option_or (first_fault (constraint_group_fault order) m.constraints) (
-    made_fault s m.requests 0 (groups_in_order m.groups)))
+-- groups that requests and constraints name have to be there
+unfoldable pub groups_fault : {s : ℕ} → Typed s → List GroupId → Option ModelFault
+groups_fault m order = option_or (first_fault (request_group_fault order) m.requests) (first_fault (constraint_group_fault order) m.constraints)
 
--- entities that are named have to be there and fit; then the groups have to be small
-unfoldable pub entities_fault : (s : ℕ) → Typed s → List GroupId → List (Entity s) → Option ModelFault
-entities_fault s m order es =
+-- entities that they name have to be there and fit; then the groups have to be small
+unfoldable pub entities_fault : {s : ℕ} → Typed s → List GroupId → List (Entity s) → Option ModelFault
+entities_fault m order es =
     option_or (first_fault (request_fault order es) m.requests) (
     option_or (first_fault (constraint_fault order es) m.constraints) (
     first_fault (size_fault m.constraints es) (groups_in_order m.groups)))
 
-unfoldable pub outlined : (s : ℕ) → Typed s → Result (Outline s) ModelFault
-outlined s m =
-    let order = group_order m.groups in
-    let entities = all_made s m.requests in
-    unless (groups_fault s m order) (
-    unless (entities_fault s m order entities) (
-    Ok (record { order = order; entities = entities })))
+-- an outline, and the remap lists of all groups, extended, in group order
+pub record Outlined (s : ℕ) : Type 0 where
+  pub outline : Outline s
+  pub lists : List GroupList
+
+abbrev pub lists_of : {s : ℕ} → List (Made s) → List GroupList
+lists_of made = map (λ m. record { group = m.group; entries = m.list }) made
+
+abbrev pub outline_over : {s : ℕ} → Typed s → List (Made s) → Result (Outlined s) ModelFault
+outline_over m made =
+    unless (entities_fault m (group_order m.groups) (by_handle (all_made made))) (
+    Ok (record { outline = record { order = group_order m.groups; entities = by_handle (all_made made) }; lists = lists_of made }))
+
+-- what all groups make, in group order
+unfoldable pub groups_made : {s : ℕ} → List (Part s) → Typed s → Result (List (Made s)) ModelFault
+groups_made parts m = made_from m.requests m.groups parts [] (groups_in_order m.groups)
+
+-- over the linked parts, of which each group has its own
+unfoldable pub outlined : {s : ℕ} → List (Part s) → Typed s → Result (Outlined s) ModelFault
+outlined parts m =
+    unless (groups_fault m (group_order m.groups)) (
+    then_of (groups_made parts m) (outline_over m))
+
+-- ---- what a call answers, and the model that it leaves
+
+abbrev pub outline_in : {s : ℕ} → Result (Outlined s) ModelFault → Result (Outline s) ModelFault
+outline_in (Ok o) = Ok o.outline
+outline_in (Err f) = Err f
+
+abbrev pub lists_in : {s : ℕ} → Result (Outlined s) ModelFault → List GroupList
+lists_in (Ok o) = o.lists
+lists_in (Err f) = []
+
+-- the model with those of the lists that grew
+abbrev pub relisted : {s : ℕ} → List GroupList → Typed s → Typed s
+relisted lists m = record m { groups = with_lists lists m.groups }

@@ -1,14 +1,29 @@
-//! The order of a model's groups, and the outline of its entities with every reference checked.
+//! The order of a model's groups, the outline of its entities with every reference checked, and what depends on what.
 #![tactic(auto)]
 
 ghost use Rattle.std.specs.Prelude.{◌≡◌};
+ghost use Rattle.sk_chain.specs.Laws.{AgainLaw, ParamsLaw};
 
 mod chain;
-mod entities;
+mod dependence;
+mod earlier;
 mod lookups;
+mod made;
+mod making;
 mod named;
 mod order;
 mod sizes;
 
 pub use chain::{order_groups, outline};
+pub use dependence::depends;
 pub use std::alloc::AllocError as NoMemory;
+
+/// An outline doesn't look at parameters.
+pub fn law_params()
+    ensures { ParamsLaw }
+{}
+
+/// A model whose lists are extended has the same outline, and no list grows again.
+pub fn law_again()
+    ensures { AgainLaw }
+{}

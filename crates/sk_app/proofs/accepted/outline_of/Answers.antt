@@ -1,9 +1,7 @@
-use Rattle.std.proofs.Common.{arith}
-use Rattle.sk_app.proofs.Stops.{model_stops, built_spaces}
+use Rattle.std.proofs.lemmas.Result.{err_from_is_err_and}
 use Rattle.sk_app.proofs.accepted.outline_of.Goals as goal
 
-pub outline-requires : goal.outline-requires
-outline-requires c = (omega arith, (omega arith, built_spaces _ c.requires))
-
-pub returns-in-Err-clause-value : goal.returns-in-Err-clause-value
-returns-in-Err-clause-value c = rw c.into.ensures (model_stops c.in-Err.fault _ c.in-Err.ensures.value)
+pub returns-in_err-parts-clause-value : goal.returns-in_err-parts-clause-value
+returns-in_err-parts-clause-value c =
+    let p = err_from_is_err_and c.from_residual.result c.from_residual.ensures.1 in
+    rw (p.1, p.2, c.in_err-parts.ensures.wanting) tt

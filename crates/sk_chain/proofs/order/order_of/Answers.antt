@@ -1,9 +1,14 @@
 use Rattle.std.proofs.Common.{ap, ◌∙◌}
 use Rattle.std.specs.BTreeSet.{insert_key}
 use Rattle.sk_model.specs.Typed.{group_handle}
+use Rattle.sk_copy.specs.Order.{in_order}
 use Rattle.sk_chain.specs.Order.{comes_before}
 use Rattle.sk_chain.proofs.Orders.{rank_of, rank_cmp, rank_agrees, keys_step, ids_of_ranks, order_length, order_read_distinct}
 use Rattle.sk_chain.proofs.order.order_of.Goals as goal
+
+pub loop-group-init : goal.loop-group-init
+unfolding in_order
+loop-group-init g c = c.new-ranks.ensures.empty
 
 pub loop-group-preserved : goal.loop-group-preserved
 loop-group-preserved g c =
