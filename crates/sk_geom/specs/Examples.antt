@@ -168,6 +168,11 @@ turned-at : reads at_moving (point_tree moving (entity 2147614730 2011 2 [] 0 0 
 unfolding point_tree space_point turned_point group_quaternion group_vector three_params four_params param_tree quaternion_axes vector_sum scaled_by span_value
 turned-at = refl
 
+-- (1, 2, 3) not turned, and moved by (10, 0, 0), is (11, 2, 3)
+linked-at : reads (pos 160 ∷ pos 0 ∷ pos 0 ∷ pos 16 ∷ pos 0 ∷ pos 0 ∷ pos 0 ∷ []) (point_tree moving (entity 2147614727 2011 2 [] 0 0 (Placed (pos 16 ∷ pos 32 ∷ pos 48 ∷ pos 0 ∷ [])))) ≡ three (pos 176) (pos 32) (pos 48)
+unfolding point_tree space_point turned_point group_quaternion group_vector three_params four_params param_tree quaternion_axes vector_sum scaled_by span_value
+linked-at = refl
+
 -- the stored normal is turned by the group's quaternion, a copied one isn't
 turned-normal : reads at_moving (normal_tree moving (entity 2147614730 3011 2 [] 0 0 (Placed (pos 80 ∷ pos 96 ∷ pos 112 ∷ pos 128 ∷ [])))) ≡ Some (negsuc 959) ∷ Some (pos 192) ∷ Some (pos 480) ∷ Some (pos 384) ∷ []
 unfolding normal_tree space_normal group_quaternion four_params param_tree quaternion_product span_value
