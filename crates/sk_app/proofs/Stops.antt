@@ -1,11 +1,12 @@
 -- What stops the work on a model.
-use Rattle.std.proofs.Common.{◌≡◌, inl, inr, ap, List, Result, Err}
+use Rattle.std.proofs.Common.{◌≡◌, inl, inr, ap, ℕ, List, Result, Err}
 use Rattle.sk_records.specs.Blocks.{Block}
 use Rattle.sk_records.specs.declared.faults.ReadFault.{ReadFault}
 use Rattle.sk_records.specs.declared.faults.ReadFault.TheVariants as text
 use Rattle.sk_records.specs.Answers.{IsFault}
 use Rattle.sk_model.specs.declared.faults.ModelFault.{ModelFault}
 use Rattle.sk_model.specs.declared.faults.ModelFault.TheVariants as model
+use Rattle.sk_chain.specs.Outlines.{Outlined, outline_in}
 use Rattle.sk_app.specs.declared.fault.Refusal.TheVariants.{Text, Typed as IllTyped}
 use Rattle.sk_app.specs.Chain.{with_err}
 use Rattle.sk_app.specs.Lent.{IsAnswer, stop_of_text, stop_of_model}
@@ -48,3 +49,8 @@ wanted e r h = rw h tt
 pub model_stops : {T : Type 0} (e : ModelFault) (r : Result T ModelFault) → IsFault model.NoMemory e r → IsAnswer (Err (stop_of_model e)) (with_err IllTyped r)
 model_stops e r (inl h) = wanted e r h
 model_stops e r (inr h) = told e r h
+
+-- what isn't outlined with its lists isn't outlined
+pub outline_fault : {s : ℕ} (e : ModelFault) (r : Result (Outlined s) ModelFault) → IsFault model.NoMemory e r → IsFault model.NoMemory e (outline_in r)
+outline_fault e r (inl h) = inl h
+outline_fault e r (inr h) = inr (ap outline_in h)

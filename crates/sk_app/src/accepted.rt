@@ -12,7 +12,7 @@ ghost use Rattle.sk_app.specs.Lent.{IsAnswer, lists_in, model_in, IsSmall};
 use crate::SCALE;
 use crate::built::unbuilt;
 use crate::fault::{StageFault, Stop};
-use sk_chain::outline;
+use sk_chain::outlined;
 use sk_files::MemFolder;
 use sk_link::{Parts, read_parts};
 use sk_model::Model;
@@ -65,27 +65,26 @@ fn no_parts(alloc: Global) -> Result<Parts<SCALE>, Stop>
 #[tactic(auto, using(sk_num::specs::Scale::scale_facts))]
 fn outline_over(
     alloc: Global,
-    model: &mut Model<SCALE>,
+    model: &Model<SCALE>,
     parts: &Parts<SCALE>,
 ) -> Result<Outline<SCALE>, Stop>
     requires { parts.now ≡ [] }
-    ensures value { IsAnswer result (with_err IllTyped (outline_in (outlined [] model.old.lists))) }
+    ensures value { IsAnswer result (with_err IllTyped (outline_in (outlined [] model.now.lists))) }
     ensures small { IfOk result IsSmall }
 {
-    match outline(alloc, model, parts) {
-        Ok(outline) => Ok(outline),
+    match outlined(alloc, model, parts) {
+        Ok((outline, _lists)) => Ok(outline),
         Err(fault) => Err(fault.into()),
     }
 }
 
-// The outline of a model in which everything is built. The model is left as it is: a drawing in space has no copies.
+// The outline of a model in which everything is built: drawings in space have no copies, so its lists don't matter.
 fn outline_of(alloc: Global, model: &Model<SCALE>) -> Result<Outline<SCALE>, Stop>
     ensures value { IsAnswer result (with_err IllTyped (outline_in (outlined [] model.now.lists))) }
     ensures small { IfOk result IsSmall }
 {
     let parts = no_parts(alloc)?;
-    let mut model = model.copy(alloc)?;
-    let outline = outline_over(alloc, &mut model, &parts)?;
+    let outline = outline_over(alloc, model, &parts)?;
     Ok(outline)
 }
 

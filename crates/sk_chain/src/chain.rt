@@ -115,8 +115,9 @@ fn outline_over<const S: u32>(
     Ok((outline, lists))
 }
 
-// The outline of a model, and the remap lists that its groups have then.
-fn outlined<const S: u32>(
+/// The outline of a model, as `outline` gives it, and the remap lists that its groups have then, in group order. The model stays as
+/// it is.
+pub fn outlined<const S: u32>(
     alloc: Global,
     model: &Model<S>,
     parts: &Parts<S>,

@@ -14,7 +14,7 @@ mod named;
 mod order;
 mod sizes;
 
-pub use chain::{order_groups, outline};
+pub use chain::{order_groups, outline, outlined};
 pub use dependence::depends;
 pub use std::alloc::AllocError as NoMemory;
 
