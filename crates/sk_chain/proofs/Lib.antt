@@ -2,6 +2,8 @@ pub mod Distinct
 pub mod InOrder
 pub mod Orders
 pub mod Needed
+pub mod Noting
+pub mod Reaching
 pub mod Faults
 pub mod Segments
 pub mod Drawn

@@ -1,5 +1,5 @@
 -- The definitions on small models.
-use Rattle.std.specs.Prelude.{◌≡◌, ℕ, ◌+◌, ◌*◌, ◌^◌, ℤ, pos, negsuc, List, [], ◌∷◌, ◌++◌, map, Bool, true, false, Option, Some, None, Result, Ok, Err, refl}
+use Rattle.std.specs.Prelude.{◌≡◌, ◌==◌, ℕ, ◌+◌, ◌*◌, ◌^◌, ℤ, pos, negsuc, List, [], ◌∷◌, ◌++◌, map, Bool, true, false, Option, Some, None, Result, Ok, Err, refl}
 use Rattle.sk_types.specs.declared.handle.EntityId.{EntityId}
 use Rattle.sk_types.specs.declared.handle.GroupId.{GroupId}
 use Rattle.sk_types.specs.declared.constraint.Constraint.{Constraint}
@@ -20,7 +20,7 @@ use Rattle.sk_model.specs.declared.faults.What.TheVariants as what
 use Rattle.sk_model.specs.declared.remap.GroupList.{GroupList}
 use Rattle.sk_model.specs.Typed.{Typed}
 use Rattle.sk_link.specs.declared.parts.Part.{Part}
-use Rattle.sk_chain.specs.Dependence.{depends}
+use Rattle.sk_chain.specs.Dependence.{IsDirtySet, depends}
 use Rattle.sk_chain.specs.Made.{made_by, names_fault}
 use Rattle.sk_chain.specs.Order.{group_order}
 use Rattle.sk_chain.specs.Outlines.{Outlined, entities_fault, groups_fault, groups_made, lists_in, outlined, relisted}
@@ -281,3 +281,34 @@ by_things :
     on_first ∷ on_first ∷ on_second ∷ on_second ∷ none ∷ none ∷ []
 unfolding outlined groups_made groups_fault entities_fault names_fault made_by copies request_entities needs_of circles_of part_takes in_order depends
 by_things = refl
+
+-- ---- dirty sets
+
+abbrev group : ℕ → GroupId
+group n = record { 0 = n }
+
+abbrev four_groups : List GroupId
+four_groups = group 1 ∷ group 2 ∷ group 3 ∷ group 4 ∷ []
+
+-- each group depends on the one before it
+abbrev in_a_row : GroupId → GroupId → Bool
+in_a_row g h = g.0 == h.0 + 1
+
+abbrev apart : GroupId → GroupId → Bool
+apart g h = false
+
+-- not what depends on the changed group alone: group 4 depends on group 3
+followed : IsDirtySet in_a_row four_groups (group 2) (group 2 ∷ group 3 ∷ []) → false ≡ true
+followed d = d.closed (group 4) (group 3) refl refl refl
+
+-- not without the changed group
+with_changed : IsDirtySet in_a_row four_groups (group 2) (group 3 ∷ group 4 ∷ []) → false ≡ true
+with_changed d = d.has
+
+-- no more than what is reached
+no_more : IsDirtySet apart four_groups (group 2) (group 1 ∷ group 2 ∷ []) → false ≡ true
+no_more d = d.least (group 2 ∷ []) refl (λ g h there depends. absurd cc) (group 1) refl
+
+-- the groups stand in their order
+ordered : IsDirtySet in_a_row four_groups (group 2) (group 3 ∷ group 2 ∷ group 4 ∷ []) → (group 3 ∷ group 2 ∷ group 4 ∷ []) ≡ (group 2 ∷ group 3 ∷ group 4 ∷ [])
+ordered d = d.in_order

@@ -7,4 +7,5 @@ pub mod Counts
 pub mod Lent
 pub mod Laws
 pub mod Dependence
+pub mod Leaning
 pub mod Examples

@@ -6,6 +6,7 @@ ghost use Rattle.sk_chain.specs.Laws.{AgainLaw, ParamsLaw};
 
 mod chain;
 mod dependence;
+mod dirty;
 mod earlier;
 mod lookups;
 mod made;
@@ -16,6 +17,7 @@ mod sizes;
 
 pub use chain::{order_groups, outline, outlined};
 pub use dependence::depends;
+pub use dirty::dirty_set;
 pub use std::alloc::AllocError as NoMemory;
 
 /// An outline doesn't look at parameters.
