@@ -1,0 +1,15 @@
+pub mod Needed
+pub mod SameParts
+pub mod Within
+pub mod EntitiesWithin
+pub mod PartsWithin
+pub mod FormulasWithin
+pub mod ContactsWithin
+pub mod Lengths
+pub mod SystemsWithin
+pub mod Visits
+pub mod Steps
+pub mod Testable
+pub mod MadeWithin
+pub mod Counts
+pub mod Made

@@ -1,0 +1,13 @@
+pub mod ByHandle
+pub mod ConstraintParts
+pub mod Contacts
+pub mod Formulas
+pub mod OwnRows
+pub mod GroupSystem
+pub mod Views
+pub mod Sizes
+pub mod Fits
+pub mod Known
+pub mod Visited
+pub mod SystemViews
+pub mod FitProps
