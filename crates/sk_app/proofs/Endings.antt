@@ -2,7 +2,7 @@
 use Rattle.std.proofs.Common.{◌≡◌, ◌⊎◌, ℕ, List, [], ◌++◌, Option, take, inl, inr, ap, sym, ◌∙◌, refl, append-nil}
 use Rattle.std.proofs.lemmas.Grind.{flat_map-append}
 use Rattle.sk_files.specs.Taken.{Takes, TakesPrefix}
-use Rattle.sk_files.proofs.Takes.{Takes-then, TakesPrefix-then}
+use Rattle.sk_files.specs.TakenLaws.{Takes-then, TakesPrefix-then}
 use Rattle.sk_app.specs.declared.status.End.{End}
 use Rattle.sk_app.specs.declared.status.End.TheVariants.{Full, SinkFailed, NoMemory}
 use Rattle.sk_app.specs.Answer.{Answer}

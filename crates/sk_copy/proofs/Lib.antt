@@ -1,4 +1,3 @@
-pub mod Ordered
 pub mod Listing
 pub mod Apart
 pub mod Extended

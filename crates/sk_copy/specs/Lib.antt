@@ -1,4 +1,5 @@
 pub mod Order
+pub mod OrderLaws
 pub mod Extended
 pub mod Wanted
 pub mod Copies

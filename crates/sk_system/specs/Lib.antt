@@ -11,3 +11,4 @@ pub mod Known
 pub mod Visited
 pub mod SystemViews
 pub mod FitProps
+pub mod Examples

@@ -1,5 +1,4 @@
 pub mod Filled
-pub mod Finding
 pub mod Circles
 pub mod Unknown
 pub mod Unknowns

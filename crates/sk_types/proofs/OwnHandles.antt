@@ -9,7 +9,7 @@ use Rattle.sk_types.specs.declared.entity.Numbering.TheVariants.{Own}
 use Rattle.sk_types.specs.Lists.{each_below}
 use Rattle.sk_types.specs.ListLaws.{length-each_below}
 use Rattle.sk_types.specs.Params.{own_params, own_count}
-use Rattle.sk_types.proofs.Finding.{two}
+use Rattle.sk_types.specs.SearchLaws.{two}
 
 all_front : {A : Type 0} (P : A → Type 0) (xs ys : List A) → AllByRecursion P (xs ++ ys) → AllByRecursion P xs
 all_front P [] ys h = tt

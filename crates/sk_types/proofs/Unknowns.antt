@@ -15,7 +15,7 @@ use Rattle.sk_types.specs.declared.constraint.Constraint.{Constraint}
 use Rattle.sk_types.specs.declared.group.Group.{Group}
 use Rattle.sk_types.specs.FixedPoints.{HasFixed, is_pair}
 use Rattle.sk_types.specs.Params.{fixes, is_fixed, free_params, group_params, own_params, unknown_params}
-use Rattle.sk_types.proofs.Finding.{two}
+use Rattle.sk_types.specs.SearchLaws.{two}
 
 -- ---- points that are fixed
 

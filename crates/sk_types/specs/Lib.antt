@@ -5,6 +5,7 @@ pub mod Kinds
 pub mod Standings
 pub mod Needs
 pub mod Lookups
+pub mod SearchLaws
 pub mod Copies
 pub mod Params
 pub mod FixedPoints

@@ -1,6 +1,6 @@
 use Rattle.std.proofs.Common.{◌≡◌, suc, take, drop, ◌++◌, arith, add-one}
 use Rattle.std.proofs.lemmas.Result.{err_from_is_err_and}
-use Rattle.sk_files.proofs.Takes.{Takes-then, TakesPrefix-then, OnFailed-weaker}
+use Rattle.sk_files.specs.TakenLaws.{Takes-then, TakesPrefix-then, OnFailed-weaker}
 use Rattle.sk_app.specs.Ends.{joined}
 use Rattle.sk_app.specs.Lent.{texts}
 use Rattle.sk_app.proofs.Joined.{joined_split, joined_more}

@@ -1,6 +1,6 @@
 use Rattle.std.proofs.Common.{ℕ, ◌≤◌, arith}
 use Rattle.sk_files.specs.Outcome.{Rose}
-use Rattle.sk_files.proofs.Takes.{Takes-none}
+use Rattle.sk_files.specs.TakenLaws.{Takes-none}
 use Rattle.sk_app.specs.Answer.{answer_of}
 use Rattle.sk_app.specs.Command.{command_of}
 use Rattle.sk_app.specs.Lent.{words_of, shown}

@@ -2,7 +2,7 @@ use Rattle.std.proofs.Common.{rules}
 use Rattle.std.proofs.lemmas.Result.{on_ok_weaker}
 use Rattle.std.proofs.lemmas.List.Sorted.{answers_always}
 use Rattle.sk_types.specs.Lookups.{entity_handle}
-use Rattle.sk_copy.proofs.Ordered.{sorted_is_in_order}
+use Rattle.sk_copy.specs.OrderLaws.{sorted_is_in_order}
 use Rattle.sk_copy.proofs.order.put_in_order.Goals as goal
 
 pub returns : goal.returns

@@ -1,7 +1,7 @@
 use Rattle.std.proofs.Common.{rules, ap, ◌∙◌, Some}
 use Rattle.std.proofs.lemmas.List.Sorted.{answers_always}
 use Rattle.sk_types.specs.Lookups.{entity_handle}
-use Rattle.sk_types.proofs.Finding.{searched_there, searched_absent}
+use Rattle.sk_types.specs.SearchLaws.{searched_there, searched_absent}
 use Rattle.sk_types.proofs.lookups.entity_at.Goals as goal
 
 pub returns-in-Ok : goal.returns-in-Ok

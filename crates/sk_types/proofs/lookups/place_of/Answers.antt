@@ -1,7 +1,7 @@
 use Rattle.std.proofs.Common.{rules}
 use Rattle.std.proofs.lemmas.List.Sorted.{answers_always}
 use Rattle.sk_types.specs.Lookups.{param_handle}
-use Rattle.sk_types.proofs.Finding.{searched_place, searched_unplaced}
+use Rattle.sk_types.specs.SearchLaws.{searched_place, searched_unplaced}
 use Rattle.sk_types.proofs.lookups.place_of.Goals as goal
 
 pub returns-in-Ok-clause-place : goal.returns-in-Ok-clause-place
