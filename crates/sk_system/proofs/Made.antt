@@ -33,7 +33,8 @@ use Rattle.sk_system.specs.ByHandle.{is_of, is_normal_by}
 use Rattle.sk_system.specs.OwnRows.{OwnNumbers, entity_row_trees, named_entity_rows, group_row_trees, named_group_rows}
 use Rattle.sk_system.specs.Formulas.{NamedFormula, constraint_formula, formulas_from}
 use Rattle.sk_system.specs.Fits.{IsFit}
-use Rattle.sk_system.specs.Known.{stands_for, HasParts, IsTaken, IsKnown}
+use Rattle.sk_types.specs.Parts.{stands_for, HasParts}
+use Rattle.sk_system.specs.Known.{IsTaken, IsKnown}
 use Rattle.sk_system.specs.Sizes.{formula_rows, auxiliaries_in, cosines_in, rows_in}
 use Rattle.sk_system.specs.GroupSystem.{plain_system, numbers_of, own_constraints, group_source, own_rows_of, entities_of, group_system}
 use Rattle.sk_system.proofs.Counts.{counted}

@@ -1,29 +1,18 @@
 -- What a system is made from: the outline has accepted it, and every list by handle rises.
-use Rattle.std.specs.Prelude.{◌≡◌, ◌≤◌, ℕ, pos, Bool, true, false, List, Option, Some, None}
+use Rattle.std.specs.Prelude.{◌≡◌, ◌≤◌, ℕ, pos, List}
 use Rattle.std.specs.List.{All}
 use Rattle.sk_types.specs.declared.constraint.Constraint.{Constraint}
-use Rattle.sk_types.specs.declared.constraint.Need.{Need}
-use Rattle.sk_types.specs.declared.constraint.PartKind.{PartKind}
 use Rattle.sk_types.specs.declared.entity.Entity.{Entity}
 use Rattle.sk_types.specs.declared.entity.Numbers.{Numbers}
 use Rattle.sk_types.specs.declared.group.Group.{Group}
 use Rattle.sk_types.specs.declared.standing.Standing.TheVariants.{Accepted}
-use Rattle.sk_types.specs.Lookups.{entity_at, act_handle, value_handle, param_handle, Rise, RiseBy}
-use Rattle.sk_types.specs.Needs.{needs_of, part_takes}
+use Rattle.sk_types.specs.Lookups.{act_handle, value_handle, param_handle, Rise, RiseBy}
+use Rattle.sk_types.specs.Parts.{HasParts}
 use Rattle.sk_types.specs.Params.{OwnFit, unknown_params}
 use Rattle.sk_types.specs.Sizes.{unknowns_of, rows_of}
 use Rattle.sk_types.specs.Standings.{constraint_standing}
 use Rattle.sk_eq_lines.specs.LineRows.{IsInTurn}
 use Rattle.sk_system.specs.GroupSystem.{own_constraints}
-
--- an entity that is there and can stand in the part's place
-abbrev pub stands_for : {s : ℕ} → Option (Entity s) → PartKind → Bool
-stands_for None part = false
-stands_for (Some e) part = part_takes part e.kind
-
--- each needed part is there
-abbrev pub HasParts : {s : ℕ} → List (Entity s) → Constraint s → Type 0
-HasParts es c = All (λ (n : Need). stands_for (entity_at n.entity.0 es) n.part ≡ true) (needs_of c.kind c.points c.entities)
 
 -- a constraint of an accepted kind; an angle is at most a turn; the needed parts are there
 abbrev pub IsTaken : {s : ℕ} → List (Entity s) → Constraint s → Type 0

@@ -6,6 +6,7 @@ pub mod Standings
 pub mod Needs
 pub mod Lookups
 pub mod SearchLaws
+pub mod Parts
 pub mod Copies
 pub mod Params
 pub mod FixedPoints
