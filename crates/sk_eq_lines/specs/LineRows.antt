@@ -1,6 +1,6 @@
 -- Constraints of lines and normals, by SolveSpace's numbers. Where a kind has auxiliaries, i is the first one's unknown.
 -- Points, lines and vectors are taken in the constraint's workplane W where that is said (flat), else in space.
-use Rattle.std.specs.Prelude.{◌≡◌, ◌≤◌, ◌==◌, ◌+◌, ◌-◌, ◌*◌, ◌^◌, unsigned_abs, ℕ, ℤ, Bool, true, false, List, [], ◌∷◌, ◌++◌, take, count_by, get_or, if◌then◌else◌}
+use Rattle.std.specs.Prelude.{◌==◌, ◌+◌, ◌-◌, ℕ, ℤ, Bool, true, false, List, [], ◌∷◌, ◌++◌, take, count_by, get_or, if◌then◌else◌}
 use Rattle.sk_types.specs.declared.constraint.Constraint.{Constraint}
 use Rattle.sk_types.specs.declared.constraint_kind.TheConstants as kind
 use Rattle.sk_types.specs.Sizes.{has_entity}
@@ -152,10 +152,6 @@ line_kinds =
     kind.POINT_LINE_DISTANCE ∷ kind.PROJECTED_DISTANCE ∷ kind.POINT_ON_LINE ∷ kind.EQUAL_LENGTHS ∷ kind.LENGTH_RATIO ∷
     kind.EQUAL_LENGTH_AND_DISTANCE ∷ kind.EQUAL_DISTANCES ∷ kind.EQUAL_ANGLES ∷ kind.LENGTH_DIFFERENCE ∷
     kind.SAME_ORIENTATION ∷ kind.ANGLE ∷ kind.PARALLEL ∷ kind.PERPENDICULAR ∷ []
-
--- an angle is at most a turn
-abbrev pub IsInTurn : {s : ℕ} → Constraint s → Type 0
-IsInTurn {s} c = c.kind ≡ kind.ANGLE → unsigned_abs c.value ≤ 360 * 2 ^ s
 
 -- i unknowns and k cosines stand before; nothing by any other number
 unfoldable pub line_formula : (s : ℕ) → ℕ → ℕ → Constraint s → PartsOf → Formula

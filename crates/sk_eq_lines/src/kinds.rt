@@ -7,7 +7,8 @@ ghost use Rattle.sk_expr.specs.Visits.{grown_of};
 ghost use Rattle.sk_expr.specs.Readings.{grown_by};
 ghost use Rattle.sk_expr.specs.declared.fault.VisitFault.TheVariants.{PastLimit};
 ghost use Rattle.sk_expr.specs.declared.row.RowKind.TheVariants.{OfConstraint};
-ghost use Rattle.sk_eq_lines.specs.LineRows.{IsInTurn, line_formula};
+ghost use Rattle.sk_eq_lines.specs.LineRows.{line_formula};
+ghost use Rattle.sk_types.specs.Standings.{IsInTurn};
 
 use crate::NoMemory;
 use crate::angles::{equal_angles, in_angle, parallel, perpendicular, same_orientation};

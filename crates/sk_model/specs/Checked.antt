@@ -3,7 +3,7 @@ use Rattle.std.specs.Prelude.{◌≡◌, ◌≤◌, ◌<◌, ◌^◌, ℕ, pos, 
 use Rattle.std.specs.List.{All, IsDistinct}
 use Rattle.sk_num.specs.Limit.{IsInLimit}
 use Rattle.sk_types.specs.declared.standing.Standing.TheVariants.{Accepted}
-use Rattle.sk_types.specs.Standings.{request_standing, constraint_standing}
+use Rattle.sk_types.specs.Standings.{request_standing, constraint_standing, IsInTurn}
 use Rattle.sk_types.specs.declared.group.Group.{Group}
 use Rattle.sk_types.specs.declared.group.RemapEntry.{RemapEntry}
 use Rattle.sk_types.specs.declared.handle.EntityId.{EntityId}
@@ -57,6 +57,7 @@ pub record IsCheckedConstraint {s : ℕ} (c : Constraint s) : Type 0 where
   pub most : c.id.0 ≤ 65535
   pub accepted : constraint_standing (pos c.kind) ≡ Accepted
   pub value : IsInLimit c.value
+  pub in_turn : IsInTurn c
   pub group : IsHandle c.group.0
   pub workplane : IsHandle c.workplane.0
   pub points : All (λ (e : EntityId). IsHandle e.0) c.points

@@ -28,7 +28,7 @@ use Rattle.sk_expr.specs.declared.row.RowKind.TheVariants.{OfEntity, OfGroup}
 use Rattle.sk_expr.specs.Poly.{Poly}
 use Rattle.sk_expr.specs.Rows.{NamedRow}
 use Rattle.sk_geom.specs.Sources.{Source, IsSource}
-use Rattle.sk_eq_lines.specs.LineRows.{IsInTurn}
+use Rattle.sk_types.specs.Standings.{IsInTurn}
 use Rattle.sk_system.specs.ByHandle.{is_of, is_normal_by}
 use Rattle.sk_system.specs.OwnRows.{OwnNumbers, entity_row_trees, named_entity_rows, group_row_trees, named_group_rows}
 use Rattle.sk_system.specs.Formulas.{NamedFormula, constraint_formula, formulas_from}

@@ -10,8 +10,7 @@ use Rattle.sk_types.specs.Lookups.{act_handle, value_handle, param_handle, Rise,
 use Rattle.sk_types.specs.Parts.{HasParts}
 use Rattle.sk_types.specs.Params.{OwnFit, unknown_params}
 use Rattle.sk_types.specs.Sizes.{unknowns_of, rows_of}
-use Rattle.sk_types.specs.Standings.{constraint_standing}
-use Rattle.sk_eq_lines.specs.LineRows.{IsInTurn}
+use Rattle.sk_types.specs.Standings.{constraint_standing, IsInTurn}
 use Rattle.sk_system.specs.GroupSystem.{own_constraints}
 
 -- a constraint of an accepted kind; an angle is at most a turn; the needed parts are there

@@ -9,7 +9,7 @@ ghost use Rattle.sk_expr.specs.Rows.{row_of};
 ghost use Rattle.sk_expr.specs.FormulaViews.{IsSmall};
 ghost use Rattle.sk_geom.specs.Sources.{IsSource};
 ghost use Rattle.sk_geom.specs.Views.{source_of};
-ghost use Rattle.sk_eq_lines.specs.LineRows.{IsInTurn};
+ghost use Rattle.sk_types.specs.Standings.{IsInTurn};
 ghost use Rattle.sk_system.specs.Formulas.{formulas_from};
 ghost use Rattle.sk_system.specs.Sizes.{auxiliaries_in, cosines_in};
 ghost use Rattle.sk_system.specs.Known.{IsKnown};

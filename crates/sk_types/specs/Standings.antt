@@ -1,5 +1,6 @@
 -- Which numbers of groups, requests and constraints are accepted, left out by name, or unknown.
-use Rattle.std.specs.Prelude.{ℕ, ◌==◌, ◌||◌, ℤ, pos, negsuc, Bool, List, [], ◌∷◌, if◌then◌else◌}
+use Rattle.std.specs.Prelude.{◌≡◌, ◌≤◌, ◌*◌, ◌^◌, ℕ, ◌==◌, ◌||◌, ℤ, pos, negsuc, unsigned_abs, Bool, List, [], ◌∷◌, if◌then◌else◌}
+use Rattle.sk_types.specs.declared.constraint.Constraint.{Constraint}
 use Rattle.sk_types.specs.declared.standing.Standing.{Standing}
 use Rattle.sk_types.specs.declared.standing.Standing.TheVariants.{Accepted, LeftOut, Unknown}
 use Rattle.sk_types.specs.declared.group_kind.TheConstants as group_kind
@@ -79,3 +80,7 @@ is_left_out_constraint n = n == kind.EQUAL_LINE_AND_ARC
 
 unfoldable pub constraint_standing : ℤ → Standing
 constraint_standing n = standing_by is_accepted_constraint is_left_out_constraint n
+
+-- an angle is at most a turn
+abbrev pub IsInTurn : {s : ℕ} → Constraint s → Type 0
+IsInTurn {s} c = c.kind ≡ kind.ANGLE → unsigned_abs c.value ≤ 360 * 2 ^ s

@@ -1,6 +1,6 @@
 -- What typing leaves, link by link of each chain.
 use Rattle.std.proofs.Common.{◌≡◌, ◌≢◌, inl, inr, ℕ, ◌≤◌, List, [], ◌∷◌, ◌++◌, length, map, Bool, true, false, nat_eq, nat_lt, Option, Some, None, Result, Ok, Err, refl, subst, sym, ap, ◌∙◌, arith}
-use Rattle.std.specs.Prelude.{◌==◌, ◌||◌, ◌&&◌, not, ℤ, pos, negsuc, nat_le, unsigned_abs}
+use Rattle.std.specs.Prelude.{◌==◌, ◌||◌, ◌&&◌, ◌*◌, ◌^◌, not, ℤ, pos, negsuc, nat_le, unsigned_abs}
 use Rattle.std.specs.Option.{option_map, option_or}
 use Rattle.std.specs.List.{All, AllByRecursion, IsDistinct, list_any}
 use Rattle.std.proofs.lemmas.Bool.{cases_Bool, ltb-false, leb-true, eqb-true, eq-eqb}
@@ -16,6 +16,7 @@ use Rattle.sk_types.specs.declared.group.GroupKind.TheVariants.{Space, Plane, Ex
 use Rattle.sk_types.specs.declared.group.RemapEntry.{RemapEntry}
 use Rattle.sk_types.specs.declared.entity.ParamValue.{ParamValue}
 use Rattle.sk_types.specs.declared.request.Request.{Request}
+use Rattle.sk_types.specs.declared.constraint_kind.TheConstants as constraint_kind
 use Rattle.sk_types.specs.declared.request_kind.TheConstants as request_kind
 use Rattle.sk_types.specs.declared.standing.Standing.{Standing}
 use Rattle.sk_types.specs.declared.standing.Standing.TheVariants as standing
@@ -383,6 +384,10 @@ four_handles : (a b c d : ℕ) → IsHandle a → IsHandle b → IsHandle c → 
 four_handles a b c d ha hb hc hd =
     All-cons HasHandle (record { 0 = a }) (record { 0 = b } ∷ record { 0 = c } ∷ record { 0 = d } ∷ []) ha (All-cons HasHandle (record { 0 = b }) (record { 0 = c } ∷ record { 0 = d } ∷ []) hb (both_handles c d hc hd))
 
+turned : (s n : ℕ) (value : ℤ) (workplane : ℕ) → has_bad_value s n value workplane ≡ false → n ≡ constraint_kind.ANGLE → unsigned_abs value ≤ 360 * 2 ^ s
+unfolding has_bad_value
+turned s n value workplane e k = let passed : nat_lt (360 * 2 ^ s) (unsigned_abs value) ≡ false = rw k at e in ltb-false (360 * 2 ^ s) (unsigned_abs value) passed
+
 constraint_checked : (s : ℕ) (seen : List ℕ) (rows : List Row) (c : Constraint s) → constraint_of s seen rows ≡ Ok c → (seen_in (constraint_handle c) seen ≡ false) × IsCheckedConstraint c
 unfolding constraint_of
 constraint_checked s seen rows c e =
@@ -412,6 +417,7 @@ constraint_checked s seen rows c e =
         most = bounds.1;
         accepted = constraint_accepted kind accepted.0;
         value = quantity_read s key.ConstraintValue rows value evalue;
+        in_turn = turned s (unsigned_abs kind) value workplane fits.0;
         group = handle_read key.ConstraintGroup rows group egroup;
         workplane = handle_read key.ConstraintWorkplane rows workplane eworkplane;
         points = both_handles p q (handle_read key.ConstraintPointA rows p ep) (handle_read key.ConstraintPointB rows q eq);
