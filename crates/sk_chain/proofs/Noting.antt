@@ -213,18 +213,6 @@ needs_more order old cur new es c ns i d n whole l e k m =
     (λ (g h : GroupId). ap (λ (xs : List (Option Need)). c.group.0 == g.0 && placed_any (is_needed es h) xs) (drop-cons ns i d l ∙ ap (λ (x : Option Need). x ∷ drop (suc i) ns) (sym e))
     ∙ sym (and_or (c.group.0 == g.0) (is_at es h n.entity) (placed_any (is_needed es h) (drop (suc i) ns)))) k m)
 
-pub needs_none : {s : ℕ} (order : List GroupId) (old cur : List (List GroupId)) (es : List (Entity s)) (c : Constraint s) (ns : List (Option Need)) (i : ℕ) (d : Option Need) (whole : Test) → i < length ns → None ≡ get_or ns i d →
-    Left order old cur (λ (g h : GroupId). c.group.0 == g.0 && placed_any (is_needed es h) (drop i ns)) whole → Notes order old cur whole
-needs_none order old cur es c ns i d whole l e k =
-    left_none order old cur (λ (g h : GroupId). c.group.0 == g.0 && placed_any (is_needed es h) (drop i ns)) whole
-    (λ (g h : GroupId). ap (λ (xs : List (Option Need)). c.group.0 == g.0 && placed_any (is_needed es h) xs) (drop-cons ns i d l ∙ ap (λ (x : Option Need). x ∷ drop (suc i) ns) (sym e)) ∙ and_false (c.group.0 == g.0)) k
-
-pub needs_done : {s : ℕ} (order : List GroupId) (old cur : List (List GroupId)) (es : List (Entity s)) (c : Constraint s) (ns : List (Option Need)) (i : ℕ) (whole : Test) → length ns ≤ i →
-    Left order old cur (λ (g h : GroupId). c.group.0 == g.0 && placed_any (is_needed es h) (drop i ns)) whole → Notes order old cur whole
-needs_done order old cur es c ns i whole l k =
-    left_none order old cur (λ (g h : GroupId). c.group.0 == g.0 && placed_any (is_needed es h) (drop i ns)) whole
-    (λ (g h : GroupId). ap (λ (xs : List (Option Need)). c.group.0 == g.0 && placed_any (is_needed es h) xs) (drop_of_length-le ns l) ∙ and_false (c.group.0 == g.0)) k
-
 -- ---- the whole table
 
 abbrev nothing : List GroupId

@@ -186,15 +186,16 @@ group_equiv = record {
   congr = λ g h k. nat_eq_equiv.congr g.0 h.0 k.0;
 }
 
-pub reached_all : (order : List GroupId) (table : List (List GroupId)) (changed : GroupId) (i : ℕ) (keys : List GroupId) → length order ≤ i → IsDistinct (λ (g h : GroupId). nat_eq g.0 h.0) keys → Reached order table changed i keys → IsReached order table changed keys
-reached_all order table changed i keys n d r =
-    let few = length-le_from_is_member group_equiv keys order d r.within in
-    record {
-      has = r.has;
-      within = r.within;
-      closed = λ g h there next l. let s = listed_slice keys h l in r.closed s.0 h (omega (arith, few, n, s.1.0)) s.1.1 g there next;
-      least = r.least;
-    }
+pub reached_few : (order : List GroupId) (table : List (List GroupId)) (changed : GroupId) (i : ℕ) (keys : List GroupId) → IsDistinct (λ (g h : GroupId). nat_eq g.0 h.0) keys → Reached order table changed i keys → length keys ≤ length order
+reached_few order table changed i keys d r = length-le_from_is_member group_equiv keys order d r.within
+
+pub reached_all : (order : List GroupId) (table : List (List GroupId)) (changed : GroupId) (i : ℕ) (keys : List GroupId) → length keys ≤ i → Reached order table changed i keys → IsReached order table changed keys
+reached_all order table changed i keys n r = record {
+  has = r.has;
+  within = r.within;
+  closed = λ g h there next l. let s = listed_slice keys h l in r.closed s.0 h (omega (arith, n, s.1.0)) s.1.1 g there next;
+  least = r.least;
+}
 
 -- ---- the dirty set
 

@@ -249,10 +249,11 @@ fn reached(
 {
     let mut dirty = IndexSet::new(alloc);
     dirty.insert(changed)?;
-    for next in 0..places.len() {
+    let mut next = 0;
+    while next < dirty.len() {
         reach_from(places, table, &mut dirty, next)?;
+        next += 1;
     }
-    let _count = dirty.len();
     Ok(dirty)
 }
 
