@@ -45,7 +45,7 @@ use Rattle.sk_chain.specs.Outlines.{Outlined, constraint_fault, entities_fault, 
 use Rattle.sk_chain.proofs.Distinct.{eq_flips}
 use Rattle.sk_chain.proofs.Lists.{copies_extended}
 use Rattle.sk_chain.proofs.Orders.{groups_distinct}
-use Rattle.sk_chain.proofs.Outlining.{unless_passed}
+use Rattle.sk_chain.proofs.EachMade.{unless_passed}
 use Rattle.sk_chain.proofs.Relisted.{Fits, in_found, list_for, relist, with_all}
 use Rattle.sk_chain.proofs.Standing.{each_found}
 

@@ -88,6 +88,7 @@ module _ {s : ℕ} (rs : List Request) (all : List (Group s)) (checked : All IsC
       let most = mine.0.most in
       record {
         least = omega (arith, low, least);
+        most = omega (arith, high, most);
         kind = k.1;
         group = k.0 ∙ mine.2;
         home = ap (group_by rs all) (of_request r.id.0 e.id.0 most (omega (arith, low)) high) ∙ ap (option_map (λ (q : Request). q.group)) mine.1 ∙ ap Some mine.2;
@@ -210,8 +211,11 @@ module _ {s : ℕ} (rs : List Request) (all : List (Group s)) (checked : All IsC
     copy_home : (x : Entity s) → IsItem g x → IsKnownCopy g x → IsHome rs all g.id x
     copy_home x i k =
         let low = i.0 in
+        let high = i.1 in
+        let few = ok.most in
         record {
           least = omega (arith, low);
+          most = omega (arith, high, few);
           kind = k.kind;
           group = k.group;
           home = ap (group_by rs all) (of_group g.id.0 x.id.0 i.0 i.1) ∙ ap (option_map (λ (h : Group s). h.id)) there;

@@ -16,6 +16,8 @@ pub mod Homes
 pub mod Folds
 pub mod Counted
 pub mod Standing
+pub mod EachMade
+pub mod AllDrawn
 pub mod Owns
 pub mod Sublists
 pub mod Outlining

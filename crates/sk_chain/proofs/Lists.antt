@@ -1,9 +1,10 @@
 -- Remap lists that are extended may be set, and stand in the model then.
-use Rattle.std.proofs.Common.{◌≡◌, ◌≢◌, inl, inr, ℕ, zero, suc, ◌+◌, ◌≤◌, ◌<◌, List, [], ◌∷◌, ◌++◌, map, Bool, true, false, nat_le, Option, Some, None, Ok, refl, sym, ap, ◌∙◌, subst, arith}
+use Rattle.std.proofs.Common.{◌≡◌, ◌≢◌, inl, inr, ℕ, zero, suc, ◌+◌, ◌^◌, ◌≤◌, ◌<◌, List, [], ◌∷◌, ◌++◌, map, Bool, true, false, nat_le, Option, Some, None, Ok, refl, sym, ap, ◌∙◌, subst, arith}
 use Rattle.std.specs.Prelude.{◌==◌, pos, not, ◌&&◌, max, if◌then◌else◌}
 use Rattle.std.specs.List.{AllByRecursion, flat_map}
 use Rattle.std.proofs.lemmas.Bool.{cases_Bool, leb-false, le-leb, ne_eqb}
 use Rattle.std.proofs.lemmas.List.{map-append}
+use Rattle.std.proofs.lemmas.List.Elements.{All-push}
 use Rattle.std.proofs.Math.Nat.{le-max_left, le-max_right}
 use Rattle.sk_types.specs.declared.entity.Entity.{Entity}
 use Rattle.sk_types.specs.declared.entity_kind.TheConstants as entity_kind
@@ -21,58 +22,70 @@ use Rattle.sk_copy.specs.Order.{by_handle}
 use Rattle.sk_copy.specs.Wanted.{Move, copy_number, ends_by, extruded_as, first_copy, is_extruded, is_linked, is_translated, linked_as, moves_by, times_of, translated_as, wanted, wanted_as}
 use Rattle.sk_model.specs.Chain.{seen_in}
 use Rattle.sk_model.specs.Changes.{numbers_of}
+use Rattle.sk_model.specs.Checked.{IsHandle}
 use Rattle.sk_model.specs.Remap.{entry_over, is_in_range, numbers_in, remap_of}
-use Rattle.sk_model.specs.Settable.{IsRemapList}
+use Rattle.sk_model.specs.Settable.{HasSources, IsRemapList}
 use Rattle.sk_model.specs.TypingLaws.ListSteps.{all_added}
 use Rattle.sk_chain.proofs.Segments.{all_behind}
 
--- ---- copies of a group have small numbers
-
-abbrev pub IsSmallCopy : CopyKey → Type 0
-IsSmallCopy c = c.1 ≤ 65535
-
-abbrev pub AllSmall : List CopyKey → Type 0
-AllSmall cs = AllByRecursion IsSmallCopy cs
-
-small_only : (t : Bool) (cs : List CopyKey) → AllSmall cs → AllSmall (only_if t cs)
-small_only true cs h = h
-small_only false cs h = tt
-
-small_flat : {X : Type 0} (f : X → List CopyKey) → ((x : X) → AllSmall (f x)) → (xs : List X) → AllSmall (flat_map f xs)
-small_flat f h [] = tt
-small_flat f h (x ∷ xs) = all_behind IsSmallCopy (f x) (flat_map f xs) (h x) (small_flat f h xs)
-
-extruded_small : {s : ℕ} (e : Entity s) → AllSmall (extruded_as e)
-extruded_small e = small_only (is_extruded e) _
-    (all_behind IsSmallCopy ((e.id.0, which.TOP) ∷ (e.id.0, which.BOTTOM) ∷ only_if (is_point e.kind) ((e.id.0, which.SIDE_LINE) ∷ [])) (only_if (e.kind == entity_kind.LINE) ((e.id.0, which.SIDE_FACE) ∷ []))
-    (omega arith, (omega arith, small_only (is_point e.kind) ((e.id.0, which.SIDE_LINE) ∷ []) (omega arith, tt))) (small_only (e.kind == entity_kind.LINE) ((e.id.0, which.SIDE_FACE) ∷ []) (omega arith, tt)))
-
-small_number : (end a : ℕ) → a ≤ 1000 → copy_number end a ≤ 65535
-small_number end a l = elim (cases_Bool (a + 1 == end)) [ inl t ↦ rw t (omega arith) | inr f ↦ rw f (omega (arith, l)) ]
-
-moved_small : (h first n m : ℕ) (two_sided : Bool) → first + m ≤ 1001 → AllSmall (map (λ (x : Move). (h, x.0)) (each_below m (λ i. (copy_number (first + n) (first + i), times_of two_sided n (first + i)))))
-moved_small h first n zero two_sided l = tt
-moved_small h first n (suc m) two_sided l =
-    subst AllSmall (sym (map-append (λ (x : Move). (h, x.0)) (each_below m (λ i. (copy_number (first + n) (first + i), times_of two_sided n (first + i)))) ((copy_number (first + n) (first + m), times_of two_sided n (first + m)) ∷ [])))
-    (all_behind IsSmallCopy (map (λ (x : Move). (h, x.0)) (each_below m (λ i. (copy_number (first + n) (first + i), times_of two_sided n (first + i))))) ((h, copy_number (first + n) (first + m)) ∷ [])
-    (moved_small h first n m two_sided (omega (arith, l))) (small_number (first + n) (first + m) (omega (arith, l)), tt))
+-- ---- copies of a group have small numbers, and the handles of what is copied
 
 few_first : (skip two_sided : Bool) → (if skip && not two_sided then 1 else 0) ≤ 1
 few_first true true = omega arith
 few_first true false = omega arith
 few_first false two_sided = omega arith
 
-small_by : {s : ℕ} (k : GroupKind) (g : Group s) (es : List (Entity s)) → g.copies ≤ 999 → AllSmall (ends_by k ++ flat_map (wanted_as k g es) es)
-small_by Space g es few = small_flat (wanted_as Space g es) (λ e. tt) es
-small_by Plane g es few = small_flat (wanted_as Plane g es) (λ e. tt) es
-small_by Extrude g es few = (omega arith, (omega arith, small_flat extruded_as extruded_small es))
-small_by {s} Translate g es few =
-    let first = few_first g.skip_first g.two_sided in
-    small_flat (translated_as (moves_by Translate g)) (λ e. small_only (is_translated e) _ (moved_small e.id.0 (first_copy g) g.copies g.copies g.two_sided (omega (arith, few, first)))) es
-small_by Linked g es few = small_flat (linked_as es) (λ e. small_only (is_linked es e) ((e.id.0, which.LINKED) ∷ []) (omega arith, tt)) es
+small_number : (end a : ℕ) → a ≤ 1000 → copy_number end a ≤ 65535
+small_number end a l = elim (cases_Bool (a + 1 == end)) [ inl t ↦ rw t (omega arith) | inr f ↦ rw f (omega (arith, l)) ]
 
-pub wanted_small : {s : ℕ} (g : Group s) (es : List (Entity s)) → g.copies ≤ 999 → AllSmall (wanted g es)
-wanted_small g es few = small_by g.kind g es few
+module _ (H : ℕ → Type 0) where
+  abbrev pub IsFit : CopyKey → Type 0
+  IsFit c = (c.1 ≤ 65535) × H c.0
+
+  abbrev pub AllFit : List CopyKey → Type 0
+  AllFit cs = AllByRecursion IsFit cs
+
+  fit_only : (t : Bool) (cs : List CopyKey) → AllFit cs → AllFit (only_if t cs)
+  fit_only true cs h = h
+  fit_only false cs h = tt
+
+  fit_flat : {s : ℕ} (f : Entity s → List CopyKey) → ((e : Entity s) → H e.id.0 → AllFit (f e)) → (es : List (Entity s)) → AllByRecursion (λ e. H e.id.0) es → AllFit (flat_map f es)
+  fit_flat f h [] k = tt
+  fit_flat f h (e ∷ es) k = all_behind IsFit (f e) (flat_map f es) (h e k.0) (fit_flat f h es k.1)
+
+  extruded_fit : {s : ℕ} (e : Entity s) → H e.id.0 → AllFit (extruded_as e)
+  extruded_fit e h = fit_only (is_extruded e) _
+      (all_behind IsFit ((e.id.0, which.TOP) ∷ (e.id.0, which.BOTTOM) ∷ only_if (is_point e.kind) ((e.id.0, which.SIDE_LINE) ∷ [])) (only_if (e.kind == entity_kind.LINE) ((e.id.0, which.SIDE_FACE) ∷ []))
+      ((omega arith, h), ((omega arith, h), fit_only (is_point e.kind) ((e.id.0, which.SIDE_LINE) ∷ []) ((omega arith, h), tt))) (fit_only (e.kind == entity_kind.LINE) ((e.id.0, which.SIDE_FACE) ∷ []) ((omega arith, h), tt)))
+
+  moved_fit : (h first n m : ℕ) (two_sided : Bool) → H h → first + m ≤ 1001 → AllFit (map (λ (x : Move). (h, x.0)) (each_below m (λ i. (copy_number (first + n) (first + i), times_of two_sided n (first + i)))))
+  moved_fit h first n zero two_sided k l = tt
+  moved_fit h first n (suc m) two_sided k l =
+      subst AllFit (sym (map-append (λ (x : Move). (h, x.0)) (each_below m (λ i. (copy_number (first + n) (first + i), times_of two_sided n (first + i)))) ((copy_number (first + n) (first + m), times_of two_sided n (first + m)) ∷ [])))
+      (all_behind IsFit (map (λ (x : Move). (h, x.0)) (each_below m (λ i. (copy_number (first + n) (first + i), times_of two_sided n (first + i))))) ((h, copy_number (first + n) (first + m)) ∷ [])
+      (moved_fit h first n m two_sided k (omega (arith, l))) ((small_number (first + n) (first + m) (omega (arith, l)), k), tt))
+
+  fit_by : {s : ℕ} (k : GroupKind) (g : Group s) (es : List (Entity s)) → g.copies ≤ 999 → H 0 → AllByRecursion (λ e. H e.id.0) es → AllFit (ends_by k ++ flat_map (wanted_as k g es) es)
+  fit_by Space g es few none h = fit_flat (wanted_as Space g es) (λ e k. tt) es h
+  fit_by Plane g es few none h = fit_flat (wanted_as Plane g es) (λ e k. tt) es h
+  fit_by Extrude g es few none h = ((omega arith, none), ((omega arith, none), fit_flat extruded_as extruded_fit es h))
+  fit_by {s} Translate g es few none h =
+      let first = few_first g.skip_first g.two_sided in
+      fit_flat (translated_as (moves_by Translate g)) (λ e k. fit_only (is_translated e) _ (moved_fit e.id.0 (first_copy g) g.copies g.copies g.two_sided k (omega (arith, few, first)))) es h
+  fit_by Linked g es few none h = fit_flat (linked_as es) (λ e k. fit_only (is_linked es e) ((e.id.0, which.LINKED) ∷ []) ((omega arith, k), tt)) es h
+
+  pub wanted_fit : {s : ℕ} (g : Group s) (es : List (Entity s)) → g.copies ≤ 999 → H 0 → AllByRecursion (λ e. H e.id.0) es → AllFit (wanted g es)
+  wanted_fit g es few none h = fit_by g.kind g es few none h
+
+abbrev pub AnyHandle : ℕ → Type 0
+AnyHandle n = Unit {0}
+
+any_handles : {s : ℕ} (es : List (Entity s)) → AllByRecursion (λ e. AnyHandle e.id.0) es
+any_handles [] = tt
+any_handles (e ∷ es) = (tt, any_handles es)
+
+pub wanted_small : {s : ℕ} (g : Group s) (es : List (Entity s)) → g.copies ≤ 999 → AllFit AnyHandle (wanted g es)
+wanted_small g es few = wanted_fit AnyHandle g es few tt (any_handles es)
 
 -- ---- a list that is extended reads back
 
@@ -113,11 +126,17 @@ list_more id c es none few small is =
     ∙ all_added (λ (e : RemapEntry). e) (λ before e. entry_over id (numbers_in before) (copies_in before) e) (numbers_of x) x [] (map numbers_of es) es is
     (ap (λ (l : List RemapEntry). entry_over id (numbers_in l) (copies_in l) (numbers_of x)) (each_same es) ∙ entry_new id c es none few small)
 
-pub list_kept : (id : ℕ) (cs : List CopyKey) (es fs : List RemapEntry) → AllSmall cs → IsRemapList id es → extended cs es ≡ Some fs → IsRemapList id fs
+pub list_kept : (id : ℕ) (cs : List CopyKey) (es fs : List RemapEntry) → AllFit AnyHandle cs → IsRemapList id es → extended cs es ≡ Some fs → IsRemapList id fs
 list_kept id [] es fs few is e = let same : es ≡ fs = cc in subst (IsRemapList id) same is
 list_kept id (c ∷ cs) es fs few is e = by_copy c cs es fs e
     (λ t more. list_kept id cs es fs few.1 is more)
-    (λ f small more. list_kept id cs (with_copy c es) fs few.1 (list_more id c es f small few.0 is) more)
+    (λ f small more. list_kept id cs (with_copy c es) fs few.1 (list_more id c es f small few.0.0 is) more)
+
+pub sources_kept : (cs : List CopyKey) (es fs : List RemapEntry) → AllFit IsHandle cs → HasSources es → extended cs es ≡ Some fs → HasSources fs
+sources_kept [] es fs few has e = let same : es ≡ fs = cc in subst HasSources same has
+sources_kept (c ∷ cs) es fs few has e = by_copy c cs es fs e
+    (λ t more. sources_kept cs es fs few.1 has more)
+    (λ f small more. sources_kept cs (with_copy c es) fs few.1 (All-push (λ (x : RemapEntry). x.source.0 < 2 ^ 32) es (record { number = 1 + greatest es; source = record { 0 = c.0 }; copy = c.1 }) has few.0.1) more)
 
 -- ---- the list that a group's copies have
 

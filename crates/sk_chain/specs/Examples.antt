@@ -1,9 +1,12 @@
 -- The definitions on small models.
-use Rattle.std.specs.Prelude.{◌≡◌, ◌==◌, ℕ, ◌+◌, ◌*◌, ◌^◌, ℤ, pos, negsuc, List, [], ◌∷◌, ◌++◌, map, Bool, true, false, Option, Some, None, Result, Ok, Err, refl}
+use Rattle.std.proofs.Common.{subst, sym}
+use Rattle.std.proofs.lemmas.Bool.{eqb-true}
+use Rattle.std.specs.Prelude.{◌≡◌, ◌==◌, ◌&&◌, ◌||◌, not, ℕ, ◌+◌, ◌*◌, ◌^◌, ℤ, pos, negsuc, List, [], ◌∷◌, ◌++◌, map, Bool, true, false, Option, Some, None, Result, Ok, Err, refl}
 use Rattle.sk_types.specs.declared.handle.EntityId.{EntityId}
 use Rattle.sk_types.specs.declared.handle.GroupId.{GroupId}
 use Rattle.sk_types.specs.declared.constraint.Constraint.{Constraint}
 use Rattle.sk_types.specs.declared.entity.Entity.{Entity}
+use Rattle.sk_types.specs.declared.entity.Outline.{Outline}
 use Rattle.sk_types.specs.declared.entity.Numbering.TheVariants.{Placed}
 use Rattle.sk_types.specs.declared.group.Group.{Group}
 use Rattle.sk_types.specs.declared.group.GroupKind.{GroupKind}
@@ -20,7 +23,8 @@ use Rattle.sk_model.specs.declared.faults.What.TheVariants as what
 use Rattle.sk_model.specs.declared.remap.GroupList.{GroupList}
 use Rattle.sk_model.specs.Typed.{Typed}
 use Rattle.sk_link.specs.declared.parts.Part.{Part}
-use Rattle.sk_chain.specs.Dependence.{IsDirtySet, depends}
+use Rattle.sk_chain.specs.Dependence.{IsClosed, IsDirtySet, depends, is_listed, leans}
+use Rattle.sk_chain.specs.Laws.{HasNamed}
 use Rattle.sk_chain.specs.Made.{made_by, names_fault}
 use Rattle.sk_chain.specs.Order.{group_order}
 use Rattle.sk_chain.specs.Outlines.{Outlined, entities_fault, groups_fault, groups_made, lists_in, outlined, relisted}
@@ -312,3 +316,89 @@ no_more d = d.least (group 2 ∷ []) refl (λ g h there depends. absurd cc) (gro
 -- the groups stand in their order
 ordered : IsDirtySet in_a_row four_groups (group 2) (group 3 ∷ group 2 ∷ group 4 ∷ []) → (group 3 ∷ group 2 ∷ group 4 ∷ []) ≡ (group 2 ∷ group 3 ∷ group 4 ∷ [])
 ordered d = d.in_order
+
+-- ---- a dirty set over an outline: group 3 draws at a point of group 2, and a constraint of group 4 names a point of group 3
+
+abbrev end_by_end : Typed 36
+end_by_end = model_of (third Plane 0 end 0) (request_of 6 101 3 0 ∷ []) (constraint_of 7 30 4 0 393216 point ∷ [])
+
+abbrev outline_told : Result (Outlined 36) ModelFault → Outline 36
+outline_told (Ok o) = o.outline
+outline_told (Err f) = record { order = []; entities = [] }
+
+abbrev end_outline : Outline 36
+end_outline = outline_told (outlined [] end_by_end)
+
+abbrev leans_on : GroupId → GroupId → Bool
+leans_on = depends end_by_end end_outline.entities
+
+end_order : end_outline.order ≡ four_groups
+unfolding outlined groups_made groups_fault entities_fault names_fault made_by copies request_entities needs_of circles_of part_takes in_order
+end_order = refl
+
+-- group 4 depends on group 2 through group 3 alone
+leaning : map (λ (n : ℕ). leans_on (group n) (group 2)) (1 ∷ 2 ∷ 3 ∷ 4 ∷ []) ≡ false ∷ false ∷ true ∷ false ∷ []
+unfolding outlined groups_made groups_fault entities_fault names_fault made_by copies request_entities needs_of circles_of part_takes in_order depends
+leaning = refl
+
+third_leans : leans_on (group 3) (group 2) ≡ true
+unfolding outlined groups_made groups_fault entities_fault names_fault made_by copies request_entities needs_of circles_of part_takes in_order depends
+third_leans = refl
+
+fourth_leans : leans_on (group 4) (group 3) ≡ true
+unfolding outlined groups_made groups_fault entities_fault names_fault made_by copies request_entities needs_of circles_of part_takes in_order depends
+fourth_leans = refl
+
+either : {P : Type 0} (a b : Bool) → (a || b) ≡ true → (a ≡ true → P) → (b ≡ true → P) → P
+either true b e f g = f refl
+either false b e f g = g e
+
+not_first : (a b c : Bool) → ((a && not b) && c) ≡ true → b ≡ false
+not_first a false c e = refl
+not_first true true c e = cc e
+not_first false true c e = cc e
+
+-- what depends on something isn't group 1
+dirty_closed : IsClosed leans_on four_groups (group 2 ∷ group 3 ∷ group 4 ∷ [])
+unfolding depends
+dirty_closed g h there d l =
+    let no = not_first (not (g.0 == h.0)) (g.0 == 1) (leans end_by_end end_outline.entities g h) d in
+    either (g.0 == 1) (is_listed (group 2 ∷ group 3 ∷ group 4 ∷ []) g) there (λ yes. cc (yes, no)) (λ others. others)
+
+listed_by : (gs : List GroupId) (g : GroupId) (n : ℕ) → (g.0 == n) ≡ true → is_listed gs (group n) ≡ true → is_listed gs g ≡ true
+listed_by gs g n e l = subst (λ (k : ℕ). is_listed gs (group k) ≡ true) (sym (eqb-true g.0 n e)) l
+
+dirty_least : (gs : List GroupId) → is_listed gs (group 2) ≡ true → IsClosed leans_on four_groups gs → (g : GroupId) → is_listed (group 2 ∷ group 3 ∷ group 4 ∷ []) g ≡ true → is_listed gs g ≡ true
+dirty_least gs second closed g l =
+    let third = closed (group 3) (group 2) refl third_leans second in
+    let fourth = closed (group 4) (group 3) refl fourth_leans third in
+    either (g.0 == 2) (is_listed (group 3 ∷ group 4 ∷ []) g) l (λ e. listed_by gs g 2 e second) (λ more.
+    either (g.0 == 3) (is_listed (group 4 ∷ []) g) more (λ e. listed_by gs g 3 e third) (λ last.
+    either (g.0 == 4) false last (λ e. listed_by gs g 4 e fourth) (λ e. cc e)))
+
+dirty_by_second : IsDirtySet leans_on four_groups (group 2) (group 2 ∷ group 3 ∷ group 4 ∷ [])
+dirty_by_second = record { in_order = refl; has = refl; closed = dirty_closed; least = dirty_least }
+
+-- ---- what an outline has
+
+-- a group by lines names three; where it isn't by lines its entity B isn't looked at
+three_named : HasNamed end_outline.entities (by_lines end line 7) → false ≡ true
+unfolding outlined groups_made groups_fault entities_fault names_fault made_by copies request_entities needs_of circles_of part_takes in_order
+three_named h = (h.1 refl).1
+
+origin_named : HasNamed end_outline.entities (third Plane 0 end 7)
+unfolding outlined groups_made groups_fault entities_fault names_fault made_by copies request_entities needs_of circles_of part_takes in_order
+origin_named = (refl, λ e. cc e)
+
+-- what is named has to fit
+fits_as_named : HasNamed end_outline.entities (third Plane 0 line 0) → false ≡ true
+unfolding outlined groups_made groups_fault entities_fault names_fault made_by copies request_entities needs_of circles_of part_takes in_order
+fits_as_named h = h.0
+
+-- no workplane is none that is missing
+no_workplane : HasNamed end_outline.entities (third Extrude 2 7 0)
+no_workplane e = absurd (e refl)
+
+workplane_named : HasNamed end_outline.entities (third Extrude 2 7 point) → false ≡ true
+unfolding outlined groups_made groups_fault entities_fault names_fault made_by copies request_entities needs_of circles_of part_takes in_order
+workplane_named h = h (λ e. cc e)

@@ -1,5 +1,5 @@
 -- What calls of this crate ask of a model, which typing leaves, and what they know of the groups that are made.
-use Rattle.std.specs.Prelude.{◌≡◌, ◌==◌, ◌≤◌, ℕ, ◌⊎◌, pos, nat_eq, List, [], map, Some}
+use Rattle.std.specs.Prelude.{◌≡◌, ◌==◌, ◌≤◌, ◌<◌, ◌^◌, ℕ, ◌⊎◌, pos, nat_eq, List, [], map, Some}
 use Rattle.std.specs.List.{All, IsDistinct, find, Contains}
 use Rattle.sk_types.specs.declared.constraint.Constraint.{Constraint}
 use Rattle.sk_types.specs.declared.entity.Entity.{Entity}
@@ -12,6 +12,8 @@ use Rattle.sk_types.specs.Lookups.{Rise}
 use Rattle.sk_types.specs.Params.{own_params}
 use Rattle.sk_types.specs.Standings.{constraint_standing}
 use Rattle.sk_entity.specs.Requests.{request_entities}
+use Rattle.sk_link.specs.declared.parts.Part.{Part}
+use Rattle.sk_model.specs.Checked.{IsHandle}
 use Rattle.sk_model.specs.Settable.{IsRemapList}
 use Rattle.sk_model.specs.Typed.{group_handle}
 use Rattle.sk_chain.specs.declared.made.Made.{Made}
@@ -31,6 +33,11 @@ AreConstraints cs = All IsAccepted cs
 abbrev pub place_handle : GroupId → ℕ
 place_handle g = g.0
 
+-- what reading leaves of a linked part: its entities rise, and their handles have at most eight hexadecimal digits
+pub record IsReadPart {s : ℕ} (p : Part s) : Type 0 where
+  pub rise : Rise p.entities
+  pub handles : All (λ e. IsHandle e.id.0) p.entities
+
 -- ---- the groups that are made
 
 abbrev pub AllRise : {s : ℕ} → List (Made s) → Type 0
@@ -45,6 +52,7 @@ pub record IsDrawn {s : ℕ} (rs : List Request) (e : Entity s) : Type 0 where
 -- an entity whose handle leads back to its group; what has parameters of its own is drawn
 pub record IsHome {s : ℕ} (rs : List Request) (all : List (Group s)) (g : GroupId) (e : Entity s) : Type 0 where
   pub least : 65536 ≤ e.id.0
+  pub most : e.id.0 < 2 ^ 32
   pub kind : e.kind ≤ 65535
   pub group : e.group ≡ g
   pub home : group_by rs all (maker_of e.id.0) ≡ Some g

@@ -2,7 +2,7 @@
 #![tactic(auto)]
 
 ghost use Rattle.std.specs.Prelude.{◌≡◌};
-ghost use Rattle.sk_chain.specs.Laws.{AgainLaw, ParamsLaw};
+ghost use Rattle.sk_chain.specs.Laws.{AgainLaw, OutlineLaw, ParamsLaw};
 
 mod chain;
 mod dependence;
@@ -19,6 +19,11 @@ pub use chain::{order_groups, outline, outlined};
 pub use dependence::depends;
 pub use dirty::dirty_set;
 pub use std::alloc::AllocError as NoMemory;
+
+/// What holds of every outline, and of the remap lists beside it.
+pub fn law_outline()
+    ensures { OutlineLaw }
+{}
 
 /// An outline doesn't look at parameters.
 pub fn law_params()

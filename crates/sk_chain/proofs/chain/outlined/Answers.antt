@@ -1,7 +1,7 @@
 use Rattle.std.proofs.Common.{inr, sym, ap, ◌∙◌, arith}
 use Rattle.std.proofs.lemmas.Result.{err_from_is_err_and}
 use Rattle.sk_chain.specs.Order.{group_order}
-use Rattle.sk_chain.proofs.Outlining.{all_passed, fault_first, fault_made, fault_over, made_rise, over_differs, over_fits, over_holds}
+use Rattle.sk_chain.proofs.Outlining.{all_passed, fault_first, fault_made, fault_over, first_none, made_rise, over_differs, over_fits, over_holds}
 use Rattle.sk_chain.proofs.chain.outlined.Goals as goal
 
 pub order_of-requires : goal.order_of-requires
@@ -38,7 +38,9 @@ returns-clause-value g c =
     (sym c.groups_fault.ensures ∙ c.in_default.is) c.in_ok-made.made.items _ c.in_ok-made.ensures.value c.in_ok-outlined.ensures
 
 pub returns-clause-outline : goal.returns-clause-outline
-returns-clause-outline g c = over_holds c.args.model.now.lists c.args.parts.now c.groups.ensures.checked c.in_ok-made.made.items c.in_ok-made.ensures.value c.in_ok-made.ensures.own _ c.in_ok-outlined.ensures
+returns-clause-outline g c =
+    over_holds c.args.model.now.lists c.args.parts.now c.groups.ensures.checked c.in_ok-made.made.items c.in_ok-made.ensures.value c.in_ok-made.ensures.own
+    (first_none c.args.model.now.lists c.args.parts.now c.in_ok-places.places.keys (c.in_ok-places.ensures.places ∙ c.deref.ensures.value ∙ c.in_ok-order.ensures.order ∙ ap group_order c.groups.ensures.groups) (sym c.groups_fault.ensures ∙ c.in_default.is)) _ c.in_ok-outlined.ensures
 
 pub returns-clause-lists : goal.returns-clause-lists
 returns-clause-lists g c = over_fits c.args.model.now.lists c.args.parts.now c.groups.ensures.checked c.in_ok-made.made.items c.in_ok-made.ensures.value c.in_ok-made.ensures.own _ c.in_ok-outlined.ensures
