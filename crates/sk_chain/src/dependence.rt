@@ -1,10 +1,10 @@
 // Which groups depend on which.
 
-ghost use Rattle.std.specs.Prelude.{◌≡◌, List};
+ghost use Rattle.std.specs.Prelude.{◌≡◌};
 ghost use Rattle.std.specs.List.{list_any};
 ghost use Rattle.sk_types.specs.Lookups.{Rise};
 ghost use Rattle.sk_types.specs.Needs.{needs_of};
-ghost use Rattle.sk_chain.specs.Dependence.{constraint_leans, depends, group_leans, is_at, is_needed, leans, may_depend, request_leans};
+ghost use Rattle.sk_chain.specs.Dependence.{constraint_leans, depends, group_leans, is_at, is_needed, may_depend, request_leans};
 
 use sk_model::Model;
 use sk_types::{Constraint, Entity, EntityId, Group, GroupId, Need, Outline, Request, entity_at};

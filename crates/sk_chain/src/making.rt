@@ -1,6 +1,6 @@
 // What groups make, one behind the other.
 
-ghost use Rattle.std.specs.Prelude.{◌≡◌, ◌≤◌, IfOk, OnOk, Some, map, nat_eq};
+ghost use Rattle.std.specs.Prelude.{◌≡◌, IfOk, OnOk, Some, map, nat_eq};
 ghost use Rattle.std.specs.List.{All, IsDistinct};
 ghost use Rattle.sk_num.specs.Scale.{IsScale};
 ghost use Rattle.sk_types.specs.Lookups.{Rise};
