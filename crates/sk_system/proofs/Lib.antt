@@ -13,3 +13,4 @@ pub mod Testable
 pub mod MadeWithin
 pub mod Counts
 pub mod Made
+pub mod SizesAt

@@ -171,7 +171,7 @@ module _ {s : ℕ} (o : Source s) where
   group-long w Translate = if-long (has_entity w) _
   group-long w Linked = refl
 
-  own-long : (g : Group s) → length (own_rows_of o g) ≡ sum_by entity_rows (entities_of o) + group_rows g
+  pub own-long : (g : Group s) → length (own_rows_of o g) ≡ sum_by entity_rows (entities_of o) + group_rows g
   own-long g =
       let a = length-append (flat_map (named_entity_rows o) (entities_of o)) (named_group_rows o g) in
       let b = entities-long (entities_of o) in

@@ -273,7 +273,7 @@ start-seen y xs h e = record {
 
 -- ---- a visit
 
-if-some : {A : Type 0} (b : Bool) (o : Option A) (a : A) → (if b then o else None) ≡ Some a → o ≡ Some a
+pub if-some : {A : Type 0} (b : Bool) (o : Option A) (a : A) → (if b then o else None) ≡ Some a → o ≡ Some a
 if-some true o a h = h
 if-some false o a h = absurd cc
 

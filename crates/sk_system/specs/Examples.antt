@@ -1,22 +1,18 @@
 -- Worked systems by computation, with 16 units for 1: what is seen of them at a point.
-use Rattle.std.specs.Prelude.{◌≡◌, ◌^◌, ℕ, ℤ, pos, negsuc, Bool, true, false, List, [], ◌∷◌, map, length, Option, Some, None, option_map, refl}
-use Rattle.sk_num.specs.Ends.{Ends}
+use Rattle.std.specs.Prelude.{◌≡◌, ◌^◌, ℕ, ℤ, pos, true, false, List, [], ◌∷◌, map, length, Option, Some, None, option_map, refl}
 use Rattle.sk_types.specs.declared.constraint.Constraint.{Constraint}
 use Rattle.sk_types.specs.declared.constraint_kind.TheConstants as kind
 use Rattle.sk_types.specs.declared.entity.Entity.{Entity}
 use Rattle.sk_types.specs.declared.entity.Numbering.{Numbering}
 use Rattle.sk_types.specs.declared.entity.Numbering.TheVariants.{Own, Moved, Nothing}
 use Rattle.sk_types.specs.declared.entity.Numbers.{Numbers}
-use Rattle.sk_types.specs.declared.entity.Act.{Act}
 use Rattle.sk_types.specs.declared.group.Group.{Group}
 use Rattle.sk_types.specs.declared.group.GroupKind.{GroupKind}
-use Rattle.sk_types.specs.declared.group.GroupKind.TheVariants.{Space, Plane, Extrude, Linked}
-use Rattle.sk_types.specs.declared.handle.ParamId.{ParamId}
+use Rattle.sk_types.specs.declared.group.GroupKind.TheVariants.{Space, Extrude, Linked}
 use Rattle.sk_types.specs.Needs.{needs_of, part_takes}
 use Rattle.sk_expr.specs.declared.row.RowKind.{RowKind}
-use Rattle.sk_expr.specs.declared.row.RowKind.TheVariants.{OfEntity, OfGroup, OfConstraint}
+use Rattle.sk_expr.specs.declared.row.RowKind.TheVariants.{OfGroup, OfConstraint}
 use Rattle.sk_expr.specs.declared.row.RowName.{RowName}
-use Rattle.sk_expr.specs.Poly.{Poly}
 use Rattle.sk_expr.specs.Rows.{NamedRow}
 use Rattle.sk_expr.specs.Seen.{Seen}
 use Rattle.sk_expr.specs.SpanValue.{span_value}
@@ -25,15 +21,15 @@ use Rattle.sk_expr.specs.Parts.{line_at, frame_at, round_at, point_at, end_at, l
 use Rattle.sk_expr.specs.Readings.{reading, floor_root, grown_by}
 use Rattle.sk_geom.specs.Sources.{param_tree, three_params, four_params, group_vector, group_quaternion, act_numbers}
 use Rattle.sk_geom.specs.Quaternions.{quaternion_axes}
-use Rattle.sk_geom.specs.EntityTrees.{moved_point, space_point, space_normal, point_named, normal_named, frame, point_in, point_tree, normal_tree, distance_tree, projected, flat_tree}
+use Rattle.sk_geom.specs.EntityTrees.{moved_point, space_point, space_normal, point_named, normal_named, frame, point_tree, distance_tree}
 use Rattle.sk_eq_points.specs.PointRows.{height_over, over_plane, in_plane, point_rows}
 use Rattle.sk_eq_lines.specs.LineRows.{line_formula, in_angle, first_direction, direction_at, normals_before, is_normal_at}
 use Rattle.sk_eq_curves.specs.CurveRows.{radius_auxiliaries, radius_of, diameter, curve_formula}
-use Rattle.sk_system.specs.ByHandle.{point_by, flat_by, frame_by, axes_by, distance_by}
+use Rattle.sk_system.specs.ByHandle.{point_by, frame_by, distance_by}
 use Rattle.sk_system.specs.ConstraintParts.{needed, line_by, round_by, constraint_parts}
 use Rattle.sk_system.specs.Formulas.{constraint_formula}
 use Rattle.sk_system.specs.OwnRows.{own_numbers, unit_row, entity_row_trees, group_row_trees}
-use Rattle.sk_system.specs.GroupSystem.{GroupSystem, group_system, seen_at, acts_at}
+use Rattle.sk_system.specs.GroupSystem.{group_system, seen_at}
 
 -- ---- groups, entities and constraints
 
@@ -61,12 +57,12 @@ abbrev numbers : Numbers 4
 numbers = record {
   params = [];
   acts =
-    record { entity = record { 0 = 65537 }; values = pos 0 ∷ pos 0 ∷ pos 0 ∷ pos 0 ∷ [] }
-    ∷ record { entity = record { 0 = 65568 }; values = pos 16 ∷ pos 0 ∷ pos 0 ∷ pos 0 ∷ [] }
-    ∷ record { entity = record { 0 = 131073 }; values = pos 0 ∷ pos 0 ∷ pos 0 ∷ pos 0 ∷ [] }
-    ∷ record { entity = record { 0 = 131074 }; values = pos 48 ∷ pos 64 ∷ pos 0 ∷ pos 0 ∷ [] }
-    ∷ record { entity = record { 0 = 196609 }; values = pos 0 ∷ pos 0 ∷ pos 0 ∷ pos 0 ∷ [] }
-    ∷ record { entity = record { 0 = 196610 }; values = pos 32 ∷ pos 0 ∷ pos 0 ∷ pos 0 ∷ [] } ∷ [];
+      record { entity = record { 0 = 65537 }; values = pos 0 ∷ pos 0 ∷ pos 0 ∷ pos 0 ∷ [] }
+      ∷ record { entity = record { 0 = 65568 }; values = pos 16 ∷ pos 0 ∷ pos 0 ∷ pos 0 ∷ [] }
+      ∷ record { entity = record { 0 = 131073 }; values = pos 0 ∷ pos 0 ∷ pos 0 ∷ pos 0 ∷ [] }
+      ∷ record { entity = record { 0 = 131074 }; values = pos 48 ∷ pos 64 ∷ pos 0 ∷ pos 0 ∷ [] }
+      ∷ record { entity = record { 0 = 196609 }; values = pos 0 ∷ pos 0 ∷ pos 0 ∷ pos 0 ∷ [] }
+      ∷ record { entity = record { 0 = 196610 }; values = pos 32 ∷ pos 0 ∷ pos 0 ∷ pos 0 ∷ [] } ∷ [];
 }
 
 -- group 2; what it goes along is XY

@@ -12,3 +12,4 @@ pub mod Visited
 pub mod SystemViews
 pub mod FitProps
 pub mod Examples
+pub mod SizeLaws

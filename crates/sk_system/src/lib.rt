@@ -6,6 +6,7 @@
 mod by_handle;
 mod contacts;
 mod formulas;
+pub mod laws;
 mod making;
 mod own;
 mod parts;
