@@ -14,3 +14,6 @@ pub mod MadeWithin
 pub mod Counts
 pub mod Made
 pub mod SizesAt
+pub mod AlikeEntities
+pub mod AlikeParts
+pub mod AlikeSystems

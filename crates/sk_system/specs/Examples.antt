@@ -2,6 +2,7 @@
 use Rattle.std.specs.Prelude.{◌≡◌, ◌^◌, ℕ, ℤ, pos, true, false, List, [], ◌∷◌, map, length, Option, Some, None, option_map, refl}
 use Rattle.sk_types.specs.declared.constraint.Constraint.{Constraint}
 use Rattle.sk_types.specs.declared.constraint_kind.TheConstants as kind
+use Rattle.sk_types.specs.declared.entity.Act.{Act}
 use Rattle.sk_types.specs.declared.entity.Entity.{Entity}
 use Rattle.sk_types.specs.declared.entity.Numbering.{Numbering}
 use Rattle.sk_types.specs.declared.entity.Numbering.TheVariants.{Own, Moved, Nothing}
@@ -29,7 +30,7 @@ use Rattle.sk_system.specs.ByHandle.{point_by, frame_by, distance_by}
 use Rattle.sk_system.specs.ConstraintParts.{needed, line_by, round_by, constraint_parts}
 use Rattle.sk_system.specs.Formulas.{constraint_formula}
 use Rattle.sk_system.specs.OwnRows.{own_numbers, unit_row, entity_row_trees, group_row_trees}
-use Rattle.sk_system.specs.GroupSystem.{group_system, seen_at}
+use Rattle.sk_system.specs.GroupSystem.{group_system, seen_at, acts_at}
 
 -- ---- groups, entities and constraints
 
@@ -215,3 +216,20 @@ dragged = refl
 past-limit : at (group Extrude 0) (entity 393217 2010 2 [] 0 0 0 (Moved (record { 0 = 131074 }) (pos 3)) ∷ []) [] (pos (2 ^ 62) ∷ pos 0 ∷ pos 0 ∷ []) ≡ None
 unfolding group_system seen_at own_numbers entity_row_trees group_row_trees point_tree space_point moved_point act_numbers group_vector three_params param_tree vector_sum scaled span_value
 past-limit = refl
+
+-- ---- what is read
+
+-- the numbers, with the first number of the point stored too
+abbrev stored : ℤ → Numbers 4
+stored v = record numbers { params = record { id = record { 0 = 327696 }; value = v } ∷ [] }
+
+-- where an unknown stood isn't read
+unread : group_system (group Space 0) (behind spatial) [] (stored (pos 0)) ≡ group_system (group Space 0) (behind spatial) [] (stored (pos 144))
+unfolding group_system own_numbers entity_row_trees group_row_trees point_tree space_point three_params param_tree
+unread = refl
+
+-- a point that stays where it was dragged to is read there
+left : map (λ (a : Act 4). a.values) (acts_at (group_system (group Space 0) (behind spatial) (constraint 7 kind.WHERE_DRAGGED (pos 0) 327680 0 ∷ []) (stored (pos 144))) [])
+    ≡ (pos 144 ∷ pos 0 ∷ pos 0 ∷ pos 0 ∷ []) ∷ []
+unfolding group_system acts_at own_numbers entity_row_trees group_row_trees constraint_formula point_tree space_point three_params param_tree span_value
+left = refl

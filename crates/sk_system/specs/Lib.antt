@@ -13,3 +13,4 @@ pub mod SystemViews
 pub mod FitProps
 pub mod Examples
 pub mod SizeLaws
+pub mod LookupLaws

@@ -1,8 +1,16 @@
-// A law of systems. The function here does nothing when it runs: its contract is the law.
+// Laws of systems. The functions here do nothing when they run: each contract is a law.
 
+ghost use Rattle.sk_system.specs.LookupLaws.{LookupsLaw};
 ghost use Rattle.sk_system.specs.SizeLaws.{SizesLaw};
 
 /// The system of a known group has as many unknowns and rows as the outline counts, at each point where it is.
 pub fn sizes_law()
     ensures { SizesLaw }
+{}
+
+/// Numbers of earlier groups and of parameters that are the same wherever they are read give the same system, and so the same
+/// rows and numbers at each point. What is read are the entities and parameters that the group, its entities and its
+/// constraints name, and those that these name in turn; the values of unknown parameters aren't.
+pub fn lookups_law()
+    ensures { LookupsLaw }
 {}
