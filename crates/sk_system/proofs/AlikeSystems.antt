@@ -34,7 +34,7 @@ use Rattle.sk_system.specs.Contacts.{last_three, copied_normal, named_normal, ow
 use Rattle.sk_system.specs.Formulas.{constraint_formula, formulas_from}
 use Rattle.sk_system.specs.OwnRows.{nought, read_numbers, own_numbers, unit_row, arc_row, arc_row_of, entity_row_trees, named_entity_rows, along, within, group_row_trees}
 use Rattle.sk_system.specs.GroupSystem.{own_constraints, entities_of, numbers_of, own_rows_of, group_system}
-use Rattle.sk_system.specs.LookupLaws.{Reads, IsRead, NumbersRead, PartsRead, LookupsLaw}
+use Rattle.sk_system.specs.LookupLaws.{Reads, IsRead, NumbersRead, PartsRead, HoldsReads, LookupsLaw, SameLookupsLaw}
 use Rattle.sk_system.proofs.AlikeEntities.{Pair, one, other, NamesOf, IsAlike, EntityRead, IfRead, found, in_place, vector-same, quaternion-same, act-same, point-same, normal-same, distance-same}
 use Rattle.sk_system.proofs.AlikeParts.{point_by-same, flat_by-same, frame_by-same, axes_by-same, names-read, parts-same}
 
@@ -254,3 +254,29 @@ lookups_law s r g es cs n m h k =
     let rs = rows-same x a g own h.workplane in
     let fs = formulas-same x a (length us) 0 (own_constraints g cs) h.constraints in
     λ i. record { unknowns = us; numbers = ns i; rows = rs i; formulas = fs i }
+
+-- ---- all that there is
+
+abbrev everything : Reads
+everything = record { entities = λ h. true; params = λ h. true }
+
+numbers-read : {s : ℕ} (n : Numbering s) → NumbersRead everything n
+numbers-read (Own p) = (refl, refl, refl, refl)
+numbers-read (Moved from k) = refl
+numbers-read (Copied from) = refl
+numbers-read (Placed zs) = tt
+numbers-read Nothing = tt
+
+all-held : {s : ℕ} (g : Group s) (es : List (Entity s)) (cs : List (Constraint s)) → HoldsReads everything g es cs
+all-held g es cs = record {
+  nothing = refl;
+  vector = (refl, refl, refl, refl);
+  quaternion = (refl, refl, refl, refl);
+  workplane = refl;
+  own = λ k d l. refl;
+  constraints = λ k d l. record { points = λ k d l. refl; entities = λ k d l. refl; workplane = refl };
+  names = λ k d l h. record { points = λ k d l. refl; normal = refl; distance = refl; workplane = refl; numbers = numbers-read _ };
+}
+
+pub same_lookups_law : SameLookupsLaw
+same_lookups_law s g es cs n m v a = lookups_law s everything g es cs n m (all-held g es cs) (record { values = λ h k e. v h; acts = λ h k. a h })

@@ -19,7 +19,7 @@ use Rattle.sk_num.specs.Ends.{Ends}
 use Rattle.sk_expr.specs.Poly.{Poly, unknown}
 use Rattle.sk_expr.specs.Vectors.{cross}
 use Rattle.sk_expr.specs.Parts.{PartsOf, LinePoints, RoundParts, vector_at, point_at, line_at, end_at, round_at}
-use Rattle.sk_expr.specs.Formula.{Auxiliary, row, Formula, formula, rows_only, parallel, perpendicular}
+use Rattle.sk_expr.specs.Formula.{row, Formula, formula, rows_only, parallel, perpendicular}
 use Rattle.sk_geom.specs.Sources.{Source}
 use Rattle.sk_eq_points.specs.PointRows.{point_rows, points_difference, points_apart, over_plane, in_plane, symmetric_over_plane, mirrored, symmetric_over_line, middle, level}
 use Rattle.sk_eq_lines.specs.LineRows.{line_formula, height, cosine_of, from_foot, from_line, apart_along, on_line, equal_lengths, length_ratio, length_as_height, equal_heights, longer_by, equal_angles, same_orientation, in_angle}
@@ -65,9 +65,6 @@ rows-sum (t ∷ ts) = let e = rows-sum ts in let z = sum_by-cons rows_of_relatio
 
 only-rows : (ts : List (Poly ℤ)) (n : ℕ) → length ts ≡ n → Has (rows_only ts) 0 n
 only-rows ts n e = let z = rows-sum ts in (refl, omega (arith, e, z), omega arith)
-
-one-row : (xs : List Auxiliary) (n : ℕ) (t : Poly ℤ) → length xs ≡ n → Has (formula xs (row t ∷ [])) n 1
-one-row xs n t e = (e, omega (arith, e), omega arith)
 
 nothing : Has (formula [] []) 0 0
 nothing = (refl, refl, omega arith)

@@ -91,9 +91,6 @@ module _ (u c : ℕ) where
   up : (a : List (Poly ℤ)) → IsPart u c a → IsVector u c 24575 a
   up a h = loosen-vector u c 12287 24575 a (omega arith) h
 
-  unknown-in : (j : ℕ) → j < u → IsWithin u c 1 (unknown j)
-  unknown-in j l = (l, omega arith)
-
 rows-fit : (u c k : ℕ) (ts : List (Poly ℤ)) → AreWithin u (c + k) 4000000 ts → RelationsFit u c k (rows_only ts).relations
 rows-fit u c k [] h = tt
 rows-fit u c k (t ∷ ts) h = (h.0, rows-fit u c k ts h.1)

@@ -69,3 +69,9 @@ abbrev pub LookupsLaw : Type 0
 LookupsLaw =
     (s : ℕ) (r : Reads) (g : Group s) (es : List (Entity s)) (cs : List (Constraint s)) (n m : Numbers s) →
     HoldsReads r g es cs → AreAlike r (unknown_params cs es g) n m → group_system g es cs n ≡ group_system g es cs m
+
+-- so numbers that are the same at every handle do
+abbrev pub SameLookupsLaw : Type 0
+SameLookupsLaw =
+    (s : ℕ) (g : Group s) (es : List (Entity s)) (cs : List (Constraint s)) (n m : Numbers s) →
+    ((h : ℕ) → value_of h n.params ≡ value_of h m.params) → ((h : ℕ) → act_at h n.acts ≡ act_at h m.acts) → group_system g es cs n ≡ group_system g es cs m

@@ -1,6 +1,6 @@
 // Laws of systems. The functions here do nothing when they run: each contract is a law.
 
-ghost use Rattle.sk_system.specs.LookupLaws.{LookupsLaw};
+ghost use Rattle.sk_system.specs.LookupLaws.{LookupsLaw, SameLookupsLaw};
 ghost use Rattle.sk_system.specs.SizeLaws.{SizesLaw};
 
 /// The system of a known group has as many unknowns and rows as the outline counts, at each point where it is.
@@ -13,4 +13,9 @@ pub fn sizes_law()
 /// constraints name, and those that these name in turn; the values of unknown parameters aren't.
 pub fn lookups_law()
     ensures { LookupsLaw }
+{}
+
+/// So numbers that are the same at every handle give the same system.
+pub fn same_lookups_law()
+    ensures { SameLookupsLaw }
 {}
