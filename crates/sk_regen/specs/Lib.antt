@@ -1,0 +1,11 @@
+pub mod Works
+pub mod Regeneration
+pub mod FoldLaws
+pub mod CertifiedLaws
+pub mod NewText
+pub mod NewTextLaws
+pub mod GroupWorks
+pub mod Ground
+pub mod Below
+pub mod SoundLaws
+pub mod Examples
