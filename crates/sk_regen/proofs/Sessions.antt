@@ -23,10 +23,10 @@ use Rattle.sk_model.specs.TypingLaws.{typing_law, set_params_law, set_lists_law}
 use Rattle.sk_chain.specs.Outlines.{Outlined}
 use Rattle.sk_solve.specs.declared.report.Listed.{Listed}
 use Rattle.sk_regen.specs.Works.{Works}
-use Rattle.sk_regen.specs.Regeneration.{Left, State, taken, started, found, left_by, members_of, folded, at_references, regenerated, regenerated_over}
+use Rattle.sk_regen.specs.Regeneration.{Left, State, taken, started, found, left_by, is_listed, members_of, folded, at_references, regenerated, regenerated_over}
 use Rattle.sk_regen.specs.FoldLaws.{AllStored, Each, StandsAs, AgreeOutside, SameStored, SameGroup, UndoneLaw}
 use Rattle.sk_regen.specs.NewText.{Below, order_of, works_of, outcome, new_blocks, new_lists, regen}
-use Rattle.sk_regen.specs.NewTextLaws.{OwnsParams, IsSound, BlocksAgain, IsFixed, is_among, AllDiffer, SettledLaw, EditedLaw, FixedLaw}
+use Rattle.sk_regen.specs.NewTextLaws.{OwnsParams, IsSound, BlocksAgain, IsFixed, AllDiffer, SettledLaw, EditedLaw, FixedLaw}
 use Rattle.sk_regen.proofs.Placed.{ids_placed, flip}
 use Rattle.sk_regen.proofs.Folded.{starts, ids_started, dirty_full}
 use Rattle.sk_regen.proofs.Owned.{each_stored}
@@ -37,14 +37,14 @@ module _ (s : ℕ) (w : Works s) (stored : List (ParamValue s)) where
   of_group g m = m.group.0 == g.0
 
   -- the members of a group that comes no more
-  none_later : (g : GroupId) (order : List GroupId) (st : State s) → is_among g order ≡ false → members_of g (folded (left_by w stored) order st).members ≡ members_of g st.members
+  none_later : (g : GroupId) (order : List GroupId) (st : State s) → is_listed order g ≡ false → members_of g (folded (left_by w stored) order st).members ≡ members_of g st.members
   none_later g [] st e = refl
-  none_later g (h ∷ hs) st e = elim (cases_Bool (nat_eq h.0 g.0)) [
+  none_later g (h ∷ hs) st e = elim (cases_Bool (nat_eq g.0 h.0)) [
     | inl t ↦ (let no : true ≡ false = rw t at e in cc no)
-    | inr f ↦ (let more : is_among g hs ≡ false = rw f at e in
+    | inr f ↦ (let more : is_listed hs g ≡ false = rw f at e in
         none_later g hs (taken st (left_by w stored st.numbers h)) more
         ∙ filter-append (of_group g) st.members (left_by w stored st.numbers h).members
-        ∙ ap (λ (l : List (Listed s)). members_of g st.members ++ l) (alone g h f)
+        ∙ ap (λ (l : List (Listed s)). members_of g st.members ++ l) (alone g h (flip g.0 h.0 f))
         ∙ append-nil (members_of g st.members))
   ]
     where
@@ -71,12 +71,12 @@ module _ (s : ℕ) (w : Works s) (stored : List (ParamValue s)) where
       own : (g : GroupId) → members_of g (left_by w stored st.numbers g).members ≡ (left_by w stored st.numbers g).members
       own g = rw (eq-eqb g.0 g.0 refl) refl
 
-      later : (g : GroupId) (hs : List GroupId) → is_among g hs ≡ false → NoneYet st.members hs → NoneYet (st.members ++ (left_by w stored st.numbers g).members) hs
+      later : (g : GroupId) (hs : List GroupId) → is_listed hs g ≡ false → NoneYet st.members hs → NoneYet (st.members ++ (left_by w stored st.numbers g).members) hs
       later g [] e y = tt
-      later g (h ∷ hs) e y = elim (cases_Bool (nat_eq h.0 g.0)) [
+      later g (h ∷ hs) e y = elim (cases_Bool (nat_eq g.0 h.0)) [
         | inl t ↦ (let no : true ≡ false = rw t at e in cc no)
         | inr f ↦ (
-          filter-append (of_group h) st.members (left_by w stored st.numbers g).members ∙ ap (λ (l : List (Listed s)). l ++ members_of h (left_by w stored st.numbers g).members) y.0 ∙ rw (flip h.0 g.0 f) refl,
+          filter-append (of_group h) st.members (left_by w stored st.numbers g).members ∙ ap (λ (l : List (Listed s)). l ++ members_of h (left_by w stored st.numbers g).members) y.0 ∙ rw f refl,
           later g hs (rw f at e) y.1,
         )
       ]

@@ -20,7 +20,7 @@ use Rattle.sk_regen.specs.SoundLaws.{FullLaw}
 use Rattle.sk_regen.proofs.Folded.{over_law}
 
 listed_more : (h : GroupId) (gs : List GroupId) (g : GroupId) → is_listed gs g ≡ true → is_listed (h ∷ gs) g ≡ true
-listed_more h gs g e = elim (cases_Bool (nat_eq h.0 g.0)) [ inl t ↦ rw t refl | inr f ↦ rw f e ]
+listed_more h gs g e = elim (cases_Bool (nat_eq g.0 h.0)) [ inl t ↦ rw t refl | inr f ↦ rw f e ]
 
 self_listed : (gs : List GroupId) → AllByRecursion (λ (g : GroupId). is_listed gs g ≡ true) gs
 self_listed [] = tt

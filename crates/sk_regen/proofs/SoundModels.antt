@@ -24,11 +24,11 @@ use Rattle.sk_chain.proofs.Again.{again_law, params_law}
 use Rattle.sk_chain.proofs.Apart.{distinct_filter}
 use Rattle.sk_chain.proofs.Outlining.{outline_law}
 use Rattle.sk_regen.specs.NewText.{Below, Regenerated, is_reported, of_read, of_typed, order_of, outcome, regen, regen_blocks, works_of}
-use Rattle.sk_regen.specs.NewTextLaws.{AllDiffer, HasEntity, IsSound, OwnsParams, StartsInLimit, is_among}
+use Rattle.sk_regen.specs.NewTextLaws.{AllDiffer, HasEntity, IsSound, OwnsParams, StartsInLimit}
+use Rattle.sk_regen.specs.Regeneration.{is_listed}
 use Rattle.sk_regen.specs.Below.{below}
 use Rattle.sk_regen.specs.SoundLaws.{ModelLaw, RegenLaw, SessionLaw, SoundLaw}
 use Rattle.sk_regen.proofs.NewTexts.{blocks_again_law, regen_again_law}
-use Rattle.sk_regen.proofs.Placed.{flip}
 use Rattle.sk_regen.proofs.Sessions.{edited_law, fixed_law, settled_law}
 use Rattle.sk_regen.proofs.SoundEntities.{has_entity}
 use Rattle.sk_regen.proofs.SoundOwn.{owns_params}
@@ -127,9 +127,9 @@ model_law s scale parts read bs l o text ty out = blocks_again_law s scale (belo
 
 -- ---- sessions
 
-none_among : (g : GroupId) (gs : List GroupId) → AllByRecursion (λ n. nat_eq g.0 n ≡ false) (map place_handle gs) → is_among g gs ≡ false
+none_among : (g : GroupId) (gs : List GroupId) → AllByRecursion (λ n. nat_eq g.0 n ≡ false) (map place_handle gs) → is_listed gs g ≡ false
 none_among g [] d = refl
-none_among g (h ∷ hs) d = rw (flip g.0 h.0 d.0) (none_among g hs d.1)
+none_among g (h ∷ hs) d = rw d.0 (none_among g hs d.1)
 
 all_differ : (gs : List GroupId) → IsDistinct nat_eq (map place_handle gs) → AllDiffer gs
 all_differ [] d = tt

@@ -1,13 +1,7 @@
 -- Regeneration over linked parts: what stands below it, for a model of a text.
 use Rattle.std.specs.Prelude.{◌≡◌, ℕ, List, [], true, Result}
-use Rattle.std.specs.List.{filter}
-use Rattle.sk_types.specs.declared.entity.Numbers.{Numbers}
 use Rattle.sk_types.specs.declared.entity.Outline.{Outline}
 use Rattle.sk_types.specs.declared.handle.GroupId.{GroupId}
-use Rattle.sk_records.specs.declared.kinds.Kind.TheVariants as kind
-use Rattle.sk_records.specs.Blocks.{Block, made_anew}
-use Rattle.sk_model.specs.Changes.{params_set}
-use Rattle.sk_model.specs.EntityRecords.{entity_records}
 use Rattle.sk_model.specs.Typed.{Typed}
 use Rattle.sk_solve.specs.declared.report.Listed.{Listed}
 use Rattle.sk_regen.specs.Works.{Works}
@@ -20,7 +14,7 @@ use Rattle.sk_types.specs.declared.request.Request.{Request}
 use Rattle.sk_link.specs.declared.parts.Part.{Part}
 use Rattle.sk_chain.specs.Outlines.{Outlined, outlined}
 use Rattle.sk_model.specs.declared.faults.ModelFault.{ModelFault}
-use Rattle.sk_regen.specs.NewText.{Below, is_reported}
+use Rattle.sk_regen.specs.NewText.{Below, reported}
 use Rattle.sk_regen.specs.GroupWorks.{works}
 
 -- no parameter is looked at
@@ -35,17 +29,9 @@ below parts = record { outline_of = outline_of parts; works = works }
 abbrev pub model_works : {s : ℕ} → Typed s → Outline s → Works s
 model_works m o = works m.groups m.requests m.constraints o
 
--- all groups but group 1, in group order
-abbrev pub reported : {s : ℕ} → Outline s → List GroupId
-reported o = filter is_reported o.order
-
 -- over a list of groups and an earlier report
 abbrev pub over_dirty : {s : ℕ} → Typed s → Outline s → List GroupId → List (Listed s) → State s
 over_dirty m o dirty before = regenerated_over (model_works m o) m.params dirty before (reported o)
-
--- the text with these numbers: its parameters set, then its entity records made anew
-abbrev pub text_with : {s : ℕ} → Numbers s → Typed s → Outline s → List Block → List Block
-text_with n m o bs = made_anew kind.Entity (entity_records n.acts o.entities) (params_set n.params m.params bs)
 
 -- each box that a group of the list gets is sound, for the group's system over the numbers before it
 abbrev pub BoxesOver : {s : ℕ} → Typed s → Outline s → List GroupId → List (Listed s) → List GroupId → Type 0

@@ -32,8 +32,11 @@ pub record Below (s : ℕ) : Type 0 where
 abbrev pub is_reported : GroupId → Bool
 is_reported g = not (g.0 == 1)
 
+abbrev pub reported : {s : ℕ} → Outline s → List GroupId
+reported o = filter is_reported o.order
+
 abbrev pub order_of : {s : ℕ} → Outlined s → List GroupId
-order_of o = filter is_reported o.outline.order
+order_of o = reported o.outline
 
 -- the groups have their extended lists when they are regenerated
 abbrev pub works_of : {s : ℕ} → Below s → Typed s → Outlined s → Works s
@@ -45,8 +48,11 @@ outcome b l o = regenerated (works_of b l o) l.params (order_of o)
 -- ---- the new text
 
 -- remap lists, then parameters, then entity records
+abbrev pub text_with : {s : ℕ} → Numbers s → Typed s → Outline s → List Block → List Block
+text_with n m o bs = made_anew kind.Entity (entity_records n.acts o.entities) (params_set n.params m.params bs)
+
 abbrev pub blocks_with : {s : ℕ} → Numbers s → Typed s → Outlined s → List Block → List Block
-blocks_with n l o bs = made_anew kind.Entity (entity_records n.acts o.outline.entities) (params_set n.params l.params (lists_set o.lists l.groups bs))
+blocks_with n l o bs = text_with n l o.outline (lists_set o.lists l.groups bs)
 
 abbrev pub lists_with : {s : ℕ} → Numbers s → Typed s → Outlined s → Typed s
 lists_with n l o = record l { groups = with_lists o.lists l.groups; params = with_params n.params l.params }

@@ -1,6 +1,6 @@
 -- What holds of a regenerated text.
-use Rattle.std.specs.Prelude.{◌≡◌, ◌==◌, ℕ, nat_eq, List, [], ◌∷◌, Bool, true, false, Ok, map, flat_map}
-use Rattle.std.specs.List.{All, IsDistinct, list_any}
+use Rattle.std.specs.Prelude.{◌≡◌, ℕ, nat_eq, List, [], ◌∷◌, true, false, Ok, map, flat_map}
+use Rattle.std.specs.List.{All, IsDistinct}
 use Rattle.sk_text.specs.Lines.{lines_in}
 use Rattle.sk_num.specs.Limit.{IsInLimit}
 use Rattle.sk_num.specs.Scale.{IsScale}
@@ -23,7 +23,7 @@ use Rattle.sk_model.specs.Typed.{Typed, typed}
 use Rattle.sk_chain.specs.Outlines.{Outlined}
 use Rattle.sk_solve.specs.declared.report.Listed.{Listed}
 use Rattle.sk_regen.specs.Works.{Works}
-use Rattle.sk_regen.specs.Regeneration.{left_by, at_references, regenerated_over}
+use Rattle.sk_regen.specs.Regeneration.{is_listed, left_by, at_references, regenerated_over}
 use Rattle.sk_regen.specs.FoldLaws.{AllStored, Each, StandsAs, Owners, SameOutside}
 use Rattle.sk_regen.specs.NewText.{Below, order_of, works_of, outcome, new_blocks, new_lists, Regenerated, regen}
 
@@ -105,13 +105,10 @@ pub record FixedLaw : Type 0 where
   pub read : (s : ℕ) (b : Below s) (bs : List Block) (l : Typed s) (o : Outlined s) (report : List (Listed s)) → IsFixed b bs l o report → IsFixed b (numbered 1 bs) l o report
   pub again : (s : ℕ) (b : Below s) (bs : List Block) (l : Typed s) (o : Outlined s) (report : List (Listed s)) → IsFixed b bs l o report → regen b (bytes_of bs) ≡ Ok (record { text = bytes_of bs; report = report })
 
-abbrev pub is_among : GroupId → List GroupId → Bool
-is_among g gs = list_any (λ (h : GroupId). h.0 == g.0) gs
-
 -- no group twice
 abbrev pub AllDiffer : List GroupId → Type 0
 AllDiffer [] = Unit {0}
-AllDiffer (g ∷ gs) = (is_among g gs ≡ false) × AllDiffer gs
+AllDiffer (g ∷ gs) = (is_listed gs g ≡ false) × AllDiffer gs
 
 -- In such a text each group stands where it is left, and its member is in the report.
 abbrev pub SettledLaw : Type 0

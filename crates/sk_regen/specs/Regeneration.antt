@@ -1,6 +1,6 @@
 -- Regeneration: group after group, each over the numbers that the earlier ones left.
 use Rattle.std.specs.Prelude.{ℕ, ◌==◌, List, [], ◌∷◌, ◌++◌, map, length, ℤ, Option, Some, None, unwrap_or, Bool, if◌then◌else◌}
-use Rattle.std.specs.List.{filter, list_any}
+use Rattle.std.specs.List.{filter}
 use Rattle.sk_types.specs.declared.handle.GroupId.{GroupId}
 use Rattle.sk_types.specs.declared.handle.ParamId.{ParamId}
 use Rattle.sk_types.specs.declared.entity.ParamValue.{ParamValue}
@@ -9,6 +9,7 @@ use Rattle.sk_types.specs.declared.entity.Numbers.{Numbers}
 use Rattle.sk_types.specs.Lookups.{value_of, act_handle}
 use Rattle.sk_geom.specs.declared.fault.FrameFault.{FrameFault}
 use Rattle.sk_geom.specs.declared.fault.FrameFault.TheVariants as frame_fault
+pub use Rattle.sk_chain.specs.Dependence.{is_listed}
 use Rattle.sk_model.specs.Changes.{with_first, with_params}
 use Rattle.sk_expr.specs.declared.row.RowName.{RowName}
 use Rattle.sk_krawczyk.specs.Answers.{outcome_at, names_at}
@@ -124,9 +125,6 @@ at_references w = record { numbers = w.first; members = [] }
 -- the groups in this order: all but group 1, in group order
 abbrev pub regenerated : {s : ℕ} → Works s → List (ParamValue s) → List GroupId → State s
 regenerated w stored order = folded (left_by w stored) order (at_references w)
-
-abbrev pub is_listed : List GroupId → GroupId → Bool
-is_listed dirty g = list_any (λ (d : GroupId). d.0 == g.0) dirty
 
 -- the groups of a list, over an earlier report
 abbrev pub left_over : {s : ℕ} → Works s → List (ParamValue s) → List GroupId → List (Listed s) → Numbers s → GroupId → Left s

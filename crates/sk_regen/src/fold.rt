@@ -13,8 +13,8 @@ ghost use Rattle.sk_model.specs.Checked.{AreChecked};
 ghost use Rattle.sk_model.specs.EntityRecords.{entity_records};
 ghost use Rattle.sk_regen.specs.Ground.{BoxesSound, HasAll, IsGround, group_works};
 ghost use Rattle.sk_regen.specs.GroupWorks.{request_handle};
-ghost use Rattle.sk_regen.specs.NewText.{is_reported};
-ghost use Rattle.sk_regen.specs.Below.{BoxesOver, model_works, over_dirty, reported, text_with};
+ghost use Rattle.sk_regen.specs.NewText.{reported, text_with};
+ghost use Rattle.sk_regen.specs.Below.{BoxesOver, model_works, over_dirty};
 ghost use Rattle.sk_regen.specs.Regeneration.{is_listed, left_over, taken, regenerated_over};
 
 use crate::NoMemory;
@@ -35,7 +35,7 @@ pub fn all_groups<const S: u32>(
     alloc: Global,
     outline: &Outline<S>,
 ) -> Result<Vec<GroupId>, NoMemory>
-    ensures { IfOk result (λ v. v.items ≡ filter is_reported outline.now.order) }
+    ensures { IfOk result (λ v. v.items ≡ reported outline.now) }
 {
     let mut groups = Vec::new(alloc);
     let order = outline.order.as_slice();
@@ -51,7 +51,7 @@ pub fn all_groups<const S: u32>(
 fn is_listed(groups: &[GroupId], group: GroupId) -> bool
     ensures { result ≡ is_listed groups.now group }
 {
-    groups.iter().any(|listed| listed.0 == group.0)
+    groups.iter().any(|listed| group.0 == listed.0)
 }
 
 /// What a group leaves: of the listed ones each is regenerated, in one step; any other stays where it stands. The numbers stay.

@@ -1,6 +1,10 @@
 //! Regeneration of a model: group after group is solved over the numbers that the earlier ones left.
 #![tactic(auto)]
 
+ghost use Rattle.sk_regen.specs.CertifiedLaws.{ComesOutLaw};
+ghost use Rattle.sk_regen.specs.FoldLaws.{FoldAgainLaw, OverLaw, DirtyLaw, UndoneLaw};
+ghost use Rattle.sk_regen.specs.SoundLaws.{FullLaw, ReadLaw, SoundLaw, RegenLaw, ModelLaw, SessionLaw};
+
 mod blank;
 mod fold;
 mod frames;
@@ -12,8 +16,6 @@ mod solving;
 mod starts;
 mod state;
 mod systems;
-
-ghost use Rattle.sk_regen.specs.FoldLaws.{FoldAgainLaw, OverLaw, DirtyLaw};
 
 pub use fold::{all_groups, regenerate};
 pub use state::{Left, State};
@@ -34,9 +36,6 @@ pub fn law_dirty()
     ensures { DirtyLaw }
 {}
 
-ghost use Rattle.sk_regen.specs.FoldLaws.{UndoneLaw};
-ghost use Rattle.sk_regen.specs.CertifiedLaws.{ComesOutLaw};
-
 /// What is the same after an edit, is the same before it.
 pub fn law_undone()
     ensures { UndoneLaw }
@@ -46,8 +45,6 @@ pub fn law_undone()
 pub fn law_comes_out()
     ensures { ComesOutLaw }
 {}
-
-ghost use Rattle.sk_regen.specs.SoundLaws.{FullLaw, ReadLaw, SoundLaw, RegenLaw, ModelLaw, SessionLaw};
 
 /// Regeneration over the list of all groups is full regeneration.
 pub fn law_full()

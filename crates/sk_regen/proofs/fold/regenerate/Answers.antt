@@ -4,8 +4,8 @@ use Rattle.std.proofs.lemmas.List.Elements.{All-filter}
 use Rattle.sk_types.specs.declared.handle.GroupId.{GroupId}
 use Rattle.sk_chain.specs.Laws.{IsFound}
 use Rattle.sk_solve.specs.declared.report.Listed.{Listed}
-use Rattle.sk_regen.specs.Below.{BoxesOver, reported}
-use Rattle.sk_regen.specs.NewText.{is_reported}
+use Rattle.sk_regen.specs.Below.{BoxesOver}
+use Rattle.sk_regen.specs.NewText.{is_reported, reported}
 use Rattle.sk_regen.proofs.Foldings.{whole-some, whole-differ, whole-rise}
 use Rattle.sk_regen.proofs.fold.regenerate.Goals as goal
 
