@@ -1,18 +1,16 @@
 -- Columns, rows and inverse of an elimination fit the system.
-use Rattle.std.proofs.Common.{◌≡◌, ℕ, zero, suc, ◌<◌, ◌≤◌, ◌+◌, ◌*◌, arith, ap, sym, ◌∙◌, subst, List, [], ◌∷◌, length, map, ℤ, Option, Some, Ok, Bool, true, false, cond}
-use Rattle.std.specs.Prelude.{not, option_map}
+use Rattle.std.proofs.Common.{◌≡◌, ℕ, zero, suc, ◌<◌, ◌≤◌, ◌+◌, ◌*◌, arith, ap, sym, ◌∙◌, subst, List, ◌∷◌, length, Some, Ok, Bool, true, false, cond}
+use Rattle.std.specs.Prelude.{not}
 use Rattle.std.specs.List.{All, filter, range_with_len}
-use Rattle.std.proofs.lemmas.List.{length-append, length-map}
+use Rattle.std.proofs.lemmas.List.{length-map}
 use Rattle.std.proofs.lemmas.List.FromFn.{length-range_with_len, get_or-range_with_len}
-use Rattle.sk_num.specs.Ends.{Ends, mid}
+use Rattle.sk_num.specs.Ends.{Ends}
 use Rattle.sk_num.specs.Each.{each_some}
-use Rattle.sk_num.specs.Rounding.{rounded_quotient}
-use Rattle.sk_num.specs.EachLaws.{cons-some, each_some-length}
+use Rattle.sk_num.specs.EachLaws.{each_some-length}
 use Rattle.sk_expr.specs.Tapes.{tree_at}
 use Rattle.sk_expr.specs.Visits.{system_of, IsTestable}
 use Rattle.sk_expr.specs.declared.visited.Visited.{Visited}
-use Rattle.sk_elim.specs.Elimination.{Elimination, has_column, has_row, and_then, elimination_of, finished, inverse_row, augmented, greatest_cell, steps, forced_step, free_step, eliminate, cell_at, pivot_row}
-use Rattle.sk_elim.specs.EliminationLaws.{and_then-ok, or_past_limit-ok, map-some, filter_range-below}
+use Rattle.sk_elim.specs.Elimination.{Elimination, has_column, has_row, eliminate}
 use Rattle.sk_elim.specs.PartLaws.{HasParts, eliminate-parts}
 use Rattle.sk_elim.specs.PivotLaws.{AreApart, eliminate-square}
 use Rattle.sk_elim.specs.Result.{joined, IsElimination}
@@ -22,6 +20,7 @@ use Rattle.sk_krawczyk.specs.Box.{Basis, basis_of}
 use Rattle.sk_krawczyk.specs.IntervalTest.{slopes_at, forced_pairs}
 use Rattle.sk_krawczyk.specs.FitLaws.{testable-fits}
 use Rattle.sk_krawczyk.specs.Answers.{plain_basis, IsBasis}
+use Rattle.sk_krawczyk.specs.WholeLaws.{filter-below, inverse-size}
 use Rattle.sk_krawczyk.specs.declared.basis.Basis.{Basis as StoredBasis}
 
 pub range-below : (m n : ℕ) → n ≤ m → All (λ r. r < m) (range_with_len 0 n)
@@ -30,9 +29,6 @@ range-below m n h = λ i d l.
     let e = get_or-range_with_len 0 n i d o in
     omega (arith, e, o, h)
 
-pub filter-below : (p : ℕ → Bool) (m n : ℕ) → n ≤ m → All (λ r. r < m) (filter p (range_with_len 0 n))
-filter-below p m n h = λ i d l. omega (arith, filter_range-below p 0 n i d l, h)
-
 pub kept-few : (p : ℕ → Bool) (a n : ℕ) → length (filter p (range_with_len a n)) ≤ n
 kept-few p a zero = omega arith
 kept-few p a (suc n) = pick (p a) (kept-few p (a + 1) n)
@@ -40,34 +36,6 @@ kept-few p a (suc n) = pick (p a) (kept-few p (a + 1) n)
     pick : (b : Bool) → length (filter p (range_with_len (a + 1) n)) ≤ n → length (cond b (a ∷ filter p (range_with_len (a + 1) n)) (filter p (range_with_len (a + 1) n))) ≤ suc n
     pick true h = omega (arith, h)
     pick false h = omega (arith, h)
-
--- ---- the inverse has as many cells as it should
-
-joined-length : (f : ℕ → Option (List ℤ)) (m : ℕ) → ((x : ℕ) (ys : List ℤ) → f x ≡ Some ys → length ys ≡ m) → (xs : List ℕ) (yss : List (List ℤ)) → each_some f xs ≡ Some yss → length (joined yss) ≡ length xs * m
-joined-length f m h [] yss e = ap (λ zss. length (joined zss)) (nothing yss e) ∙ omega arith
-  where
-    nothing : (yss : List (List ℤ)) → each_some f [] ≡ Some yss → yss ≡ []
-    nothing yss e = cc
-joined-length f m h (x ∷ xs) yss e =
-    let (ys, zss, a, b, k) = cons-some (f x) (each_some f xs) yss e in
-    let l = joined-length f m h xs zss b in
-    ap (λ uss. length (joined uss)) k ∙ length-append ys (joined zss) ∙ omega (arith, h x ys a, l)
-
-pub inverse-size : (s columns params : ℕ) (forced : List (ℕ × ℕ)) (slopes : List (List Ends)) (e : Elimination) → eliminate s columns params forced slopes ≡ Ok e →
-    length (joined e.inverse) ≡ length e.solved * length e.retained
-inverse-size s columns params forced slopes e h =
-    let a = map (map mid) slopes in
-    let tops = map greatest_cell a in
-    let n = length a in
-    let (w, i, k) = and_then-ok (finished s n columns params)
-    (and_then (λ w. steps (free_step s tops params forced) w (range_with_len 0 n)) (steps (forced_step s tops) (augmented s a) forced)) e h in
-    let retained = filter (λ r. has_row r w.pivots) (range_with_len 0 n) in
-    let solved = filter (λ c. has_column c w.pivots) (range_with_len 0 columns) in
-    let o = or_past_limit-ok (option_map (elimination_of w params solved retained) (each_some (inverse_row s columns w retained) solved)) e k in
-    let (y, u, t) = map-some (elimination_of w params solved retained) (each_some (inverse_row s columns w retained) solved) e o in
-    let z = joined-length (inverse_row s columns w retained) (length retained)
-    (λ c ys q. each_some-length (λ k. rounded_quotient s (cell_at w.rows (pivot_row c w.pivots) (columns + k)) (cell_at w.rows (pivot_row c w.pivots) c)) retained ys q) solved y u in
-    subst (λ (e : Elimination). length (joined e.inverse) ≡ length e.solved * length e.retained) t z
 
 -- ---- the basis
 

@@ -1,5 +1,5 @@
 -- What a system's visit says of the answer.
-use Rattle.std.proofs.Common.{◌≡◌, ℕ, ap, sym, ◌∙◌, refl, subst, List, length, take, ℤ, Option, Some, None}
+use Rattle.std.proofs.Common.{◌≡◌, ℕ, ap, sym, ◌∙◌, subst, List, length, take, ℤ, Option, Some, None}
 use Rattle.std.specs.Prelude.{IfSome}
 use Rattle.std.proofs.lemmas.List.{length-map}
 use Rattle.sk_expr.specs.Seen.{Seen, without_names}
@@ -10,8 +10,8 @@ use Rattle.sk_expr.specs.VisitLaws.{without_names-seen, named-names}
 use Rattle.sk_expr.specs.declared.row.RowName.{RowName}
 use Rattle.sk_expr.specs.declared.visited.Visited.{Visited}
 use Rattle.sk_elim.specs.Elimination.{past_limit}
-use Rattle.sk_krawczyk.specs.IntervalTest.{Outcome, stops, fails, passes, interval_test}
-use Rattle.sk_krawczyk.specs.Answers.{IsTried, StopsAs, IsSound, outcome_at, names_at}
+use Rattle.sk_krawczyk.specs.IntervalTest.{Outcome, stops, interval_test}
+use Rattle.sk_krawczyk.specs.Answers.{IsTried, StopsAs, IsOfPass, IsSoundAt, outcome_at, names_at}
 use Rattle.sk_krawczyk.specs.PassedLaws.{passed-centre}
 use Rattle.sk_krawczyk.specs.declared.certificate.Certificate.{Certificate as StoredCertificate}
 use Rattle.sk_krawczyk.specs.declared.fault.CertFault.{CertFault}
@@ -35,23 +35,14 @@ module _ {s : ℕ} (params : ℕ) (v : Visited s) (testable : IsTestable params 
   pub stops-at : (e : CertFault) → StopsAs (interval_test s (system_of params v)) e → StopsAs (outcome_at s params seen) e
   stops-at e h = subst (λ (o : Outcome). StopsAs o e) (sym outcome-same) h
 
-  pub sound-at : (o : Option (StoredCertificate s)) → IfSome o (IsSound v.rows (system_of params v)) → IfSome o (λ k. (x : Seen) × (seen ≡ Some x) × IsSound (names_at seen) (without_names params x) k)
-  sound-at None h = tt
-  sound-at (Some k) h = (
-    seen_of v,
-    is,
-    subst (λ (names : List RowName). IsSound names (without_names params (seen_of v)) k) (sym names-same)
-        (subst (λ (x : SystemAt). IsSound v.rows x k) (sym (without_names-seen params v testable)) h),
-  )
-
--- the centre is the unknowns, which begin with the point
-module _ {s : ℕ} (names : List RowName) (v : SystemAt) (x : List ℤ) (begins : take (length x) v.unknowns ≡ x) where
-  begins-from : (o : Outcome) (t : Tried s) → interval_test s v ≡ o → IsTried names o t → IfSome t.certificate (λ k. take (length x) k.centre ≡ x)
-  begins-from (stops h) t e a = absurd a
-  begins-from (fails columns moves) t e (i, j, none) = subst (λ (c : Option (StoredCertificate s)). IfSome c (λ k. take (length x) k.centre ≡ x)) (sym none) tt
-  begins-from (passes columns moves c) t e (i, j, (k, some, is)) =
-      subst (λ (o : Option (StoredCertificate s)). IfSome o (λ d. take (length x) d.centre ≡ x)) (sym some)
-      (ap (take (length x)) (is.centre ∙ passed-centre s v c columns moves e) ∙ begins)
-
-  pub begins-at : (t : Tried s) → IsTried names (interval_test s v) t → IfSome t.certificate (λ k. take (length x) k.centre ≡ x)
-  begins-at t h = begins-from (interval_test s v) t refl h
+  -- the centre is the unknowns, which begin with the point
+  pub sound-at : (at : List ℤ → Option Seen) (x : List ℤ) → at x ≡ seen → take (length x) v.unknowns ≡ x → (o : Option (StoredCertificate s)) → IfSome o (IsOfPass v.rows (system_of params v)) → IfSome o (IsSoundAt params at x)
+  sound-at at x same begins None h = tt
+  sound-at at x same begins (Some k) h = record {
+    seen = seen_of v;
+    there = same ∙ is;
+    pass =
+        subst (λ (names : List RowName). IsOfPass names (without_names params (seen_of v)) k) (sym names-same ∙ ap names_at (sym same))
+        (subst (λ (y : SystemAt). IsOfPass v.rows y k) (sym (without_names-seen params v testable)) h);
+    begins = ap (take (length x)) (h.is.centre ∙ passed-centre s (system_of params v) h.certificate h.solved h.step h.passed) ∙ begins;
+  }

@@ -17,7 +17,8 @@ use Rattle.sk_krawczyk.specs.FitLaws.{testable-fits}
 use Rattle.sk_krawczyk.specs.Answers.{radius_of_log, IsGiven, IsBasis, given_basis, plain_basis, others}
 use Rattle.sk_krawczyk.specs.declared.basis.Basis.{Basis as StoredBasis}
 use Rattle.sk_krawczyk.specs.declared.certificate.Given.{Given}
-use Rattle.sk_krawczyk.proofs.BasisLemmas.{filter-below, kept-few}
+use Rattle.sk_krawczyk.specs.WholeLaws.{filter-below}
+use Rattle.sk_krawczyk.proofs.BasisLemmas.{kept-few}
 
 rises-above : (n : ℕ) (ks : List ℕ) → RisesFrom n ks → (i : ℕ) → i < length ks → n ≤ get_or ks i 0
 rises-above n [] h i l = absurd (omega (arith, l))

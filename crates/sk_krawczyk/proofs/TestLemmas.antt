@@ -15,7 +15,8 @@ use Rattle.sk_krawczyk.specs.Box.{Basis, basis_of, square_system, newton_step, r
 use Rattle.sk_krawczyk.specs.IntervalTest.{Outcome, stops, fails, passes, BoxOutcome, over_limit, unmet, met, radius_at, are_near, is_computed, conditions, certificate, certified, suspect_spans, suspects_of, length_columns, box_test, outcome_of, radius_test, step_test, newton_steps, elimination_test, forced_pairs, slopes_at, slopes_test, interval_test, certificate_in}
 use Rattle.sk_krawczyk.specs.CertifiedLaws.{IsFit, IsUsable, interval_test-sound, box_test-sound}
 use Rattle.sk_krawczyk.specs.RowReadings.{newton_of}
-use Rattle.sk_krawczyk.specs.Answers.{IsTried, IsTested, IsMet, IsPresent, IsSound}
+use Rattle.sk_krawczyk.specs.WholeLaws.{passed-whole}
+use Rattle.sk_krawczyk.specs.Answers.{IsTried, IsTested, IsMet, IsPresent, IsSound, IsOfPass}
 use Rattle.sk_krawczyk.specs.declared.certificate.Certificate.{Certificate as StoredCertificate}
 use Rattle.sk_krawczyk.specs.declared.point.Tried.{Tried}
 use Rattle.sk_krawczyk.proofs.RestLemmas.{first-fails}
@@ -134,14 +135,22 @@ module _ {s : ℕ} (names : List RowName) where
   tried-from v b step c n h t i j k =
       subst (λ (o : Option (List Ends)). IsTried names (step_test s v b o) t) (sym n) (tried-far v b step (map radius_of step) (are_near s (map radius_of step)) refl c h t i j k)
 
-  pub tried-sound : (v : SystemAt) (t : Tried s) → 1 ≤ s → IsFit v → IsTried names (interval_test s v) t → IfSome t.certificate (IsSound names v)
+  pub tried-sound : (v : SystemAt) (t : Tried s) → 1 ≤ s → IsFit v → IsTried names (interval_test s v) t → IfSome t.certificate (IsOfPass names v)
   tried-sound v t some fit h = by (interval_test s v) refl h
     where
-      by : (o : Outcome) → interval_test s v ≡ o → IsTried names o t → IfSome t.certificate (IsSound names v)
+      by : (o : Outcome) → interval_test s v ≡ o → IsTried names o t → IfSome t.certificate (IsOfPass names v)
       by (stops z) e h = absurd h
-      by (fails columns moves) e (i, j, k) = subst (λ (o : Option (StoredCertificate s)). IfSome o (IsSound names v)) (sym k) tt
+      by (fails columns moves) e (i, j, k) = subst (λ (o : Option (StoredCertificate s)). IfSome o (IsOfPass names v)) (sym k) tt
       by (passes columns moves c) e (i, j, (x, k, f)) =
-          subst (λ (o : Option (StoredCertificate s)). IfSome o (IsSound names v)) (sym k) (c, f, interval_test-sound s v c columns moves some fit e)
+          subst (λ (o : Option (StoredCertificate s)). IfSome o (IsOfPass names v)) (sym k) (record {
+            certificate = c;
+            solved = columns;
+            step = moves;
+            passed = e;
+            is = f;
+            whole = passed-whole names v c columns moves x fit e f;
+            sound = interval_test-sound s v c columns moves some fit e;
+          })
 
   pub present-from : (o : BoxOutcome) (c : Option (StoredCertificate s)) → IsMet names o c → IsPresent names o c
   present-from o None h = ap certificate_in h

@@ -1,5 +1,5 @@
 -- The code's answers beside the definitions'.
-use Rattle.std.specs.Prelude.{◌≡◌, ◌≤◌, ◌≤ℤ◌, ◌+ℤ◌, ◌<◌, ℕ, ◌^◌, ◌*◌, List, [], map, length, slice_get, ℤ, pos, negsuc, unsigned_abs, Option, Some, None, Bool, true, false, not}
+use Rattle.std.specs.Prelude.{◌≡◌, ◌≤◌, ◌≤ℤ◌, ◌+ℤ◌, ◌<◌, ℕ, ◌^◌, ◌*◌, List, [], map, length, slice_get, take, ℤ, pos, negsuc, unsigned_abs, Option, Some, None, Bool, true, false, not}
 use Rattle.std.specs.List.{All, filter, range_with_len}
 use Rattle.sk_expr.specs.Columns.{is_among, RisesFrom}
 use Rattle.sk_expr.specs.System.{SystemAt}
@@ -73,6 +73,31 @@ StopsAs o NoMemory = Unit {0}
 abbrev pub IsSound : {s : ℕ} → List RowName → SystemAt → StoredCertificate s → Type 0
 IsSound {s} names v k = (c : Certificate) × IsCertificate names k c × IsSoundBox s (certified_box v c)
 
+-- Each unknown is held or solved, and exactly one of these; what is held are parameters; both lists rise. There are as many
+-- retained rows and as many radii as solved unknowns, and the inverse has a cell for each solved unknown and each retained row.
+pub record IsWhole {s : ℕ} (params : ℕ) (k : StoredCertificate s) : Type 0 where
+  pub params_in : params ≤ length k.centre
+  pub parts : (c : ℕ) → c < length k.centre → is_among k.solved c ≡ not (is_among k.held c)
+  pub solved_in : All (λ c. c < length k.centre) k.solved
+  pub solved_rise : RisesFrom 0 k.solved
+  pub held_in : All (λ c. c < params) k.held
+  pub held_rise : RisesFrom 0 k.held
+  pub as_many_rows : length k.retained ≡ length k.solved
+  pub as_many_radii : length k.radius_logs ≡ length k.solved
+  pub inverse_rows : k.inverse.rows ≡ length k.solved
+  pub inverse_cols : k.inverse.cols ≡ length k.retained
+  pub inverse : length k.inverse.cells ≡ k.inverse.rows * k.inverse.cols
+
+-- The interval test of the system passes, and this is its certificate: it is whole, and its box is sound.
+pub record IsOfPass {s : ℕ} (names : List RowName) (v : SystemAt) (k : StoredCertificate s) : Type 0 where
+  pub certificate : Certificate
+  pub solved : List ℕ
+  pub step : List ℤ
+  pub passed : interval_test s v ≡ passes solved step certificate
+  pub is : IsCertificate names k certificate
+  pub whole : IsWhole v.params k
+  pub sound : IsSoundBox s (certified_box v certificate)
+
 -- the outcome at a point: where a reading passes the limit there is no system to test
 abbrev pub outcome_at : ℕ → ℕ → Option Seen → Outcome
 outcome_at s params None = stops past_limit
@@ -81,6 +106,13 @@ outcome_at s params (Some seen) = interval_test s (without_names params seen)
 abbrev pub names_at : Option Seen → List RowName
 names_at None = []
 names_at (Some seen) = map (λ (r : NamedRow). r.name) seen.rows
+
+-- The interval test of the system at the point x passes, and this is its certificate, whose centre begins with x.
+pub record IsSoundAt {s : ℕ} (params : ℕ) (at : List ℤ → Option Seen) (x : List ℤ) (k : StoredCertificate s) : Type 0 where
+  pub seen : Seen
+  pub there : at x ≡ Some seen
+  pub pass : IsOfPass (names_at (at x)) (without_names params seen) k
+  pub begins : take (length x) k.centre ≡ x
 
 -- ---- where columns, rows, an inverse and radii are given
 

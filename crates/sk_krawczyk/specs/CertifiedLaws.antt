@@ -12,7 +12,7 @@ use Rattle.sk_expr.specs.SpanValue.{span_value}
 use Rattle.sk_expr.specs.System.{SystemAt, ForcedPivot}
 use Rattle.sk_num.specs.Each.{cons_if, each_some}
 use Rattle.sk_num.specs.EachLaws.{each_some-length}
-use Rattle.sk_elim.specs.Elimination.{Elimination, eliminate}
+use Rattle.sk_elim.specs.Elimination.{Elimination, has_column, eliminate}
 use Rattle.sk_elim.specs.PivotLaws.{AreApart, eliminate-square}
 use Rattle.sk_elim.specs.EliminationLaws.{eliminate-solved, filter_range-below, filter_range-differ}
 use Rattle.sk_matrix.specs.MatrixLaws.{and-second}
@@ -160,10 +160,11 @@ pub columns-in : (n : ℕ) (fs : List ForcedPivot) → AreApart (λ p. p.1) n (m
 columns-in n [] h = All-nil (λ f. f.column < n)
 columns-in n (f ∷ fs) h = All-cons (λ f. f.column < n) f fs h.0 (columns-in n fs h.2)
 
--- every place in the rows is in range, and the forced pairs name rows and columns, no two the same
+-- every place in the rows is in range, and the forced pairs name rows and columns, no two the same, and each column of an auxiliary
 pub record IsFit (v : SystemAt) : Type 0 where
   pub rows_in : All (IsInRange (length v.unknowns) (length v.cosines)) v.rows
   pub params_in : v.params ≤ length v.unknowns
+  pub auxiliaries_forced : (c : ℕ) → v.params ≤ c → c < length v.unknowns → has_column c (forced_pairs v) ≡ true
   pub columns_apart : AreApart (λ p. p.1) (length v.unknowns) (forced_pairs v)
   pub rows_apart : AreApart (λ p. p.0) (length v.rows) (forced_pairs v)
 

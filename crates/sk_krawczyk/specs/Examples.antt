@@ -1,11 +1,17 @@
 -- Worked rows of the interval test, by computation, at the scale 36.
-use Rattle.std.specs.Prelude.{◌≡◌, refl, ◌*◌, ◌^◌, ◌-◌, [], ◌∷◌, ℤ, pos, negsuc, true, false}
+use Rattle.std.proofs.Common.{◌≡◌, ℕ, zero, suc, ◌<◌, ◌≤◌, ◌*◌, ◌^◌, ◌-◌, arith, refl, sym, List, [], ◌∷◌, length, map, ℤ, pos, negsuc, true, false, true≢false}
+use Rattle.std.specs.Prelude.{not}
+use Rattle.std.specs.List.{range_with_len}
+use Rattle.std.proofs.lemmas.List.Elements.{All-nil, All-cons}
+use Rattle.sk_expr.specs.Columns.{is_among}
 use Rattle.sk_expr.specs.Poly.{number, cosine, unknown, plus, minus, times}
 use Rattle.sk_elim.specs.Elimination.{past_limit}
 use Rattle.sk_expr.specs.SpanValue.{span_value, span_slope}
 use Rattle.sk_krawczyk.specs.Box.{radius_exponent, newton_step}
 use Rattle.sk_krawczyk.specs.IntervalTest.{slopes_at, radius_test, box_test, elimination_test, interval_test, stops, passes, fails, met, unmet}
 use Rattle.sk_krawczyk.specs.Distance.{distance_row, distance_system}
+use Rattle.sk_krawczyk.specs.Answers.{IsWhole}
+use Rattle.sk_krawczyk.specs.declared.certificate.Certificate.{Certificate}
 
 -- (0, 0) and (3, 4), distance 5: the slope of p.v is -8 and grows to 8 + 2^-31 over the box of the radius 2^-32, so b is 9 and y is 1
 pub five-apart : interval_test 36 (distance_system (pos 0 ∷ pos 0 ∷ []) (pos (3 * 2 ^ 36) ∷ pos (4 * 2 ^ 36) ∷ []) (pos (5 * 2 ^ 36))) ≡ passes (1 ∷ []) (pos 0 ∷ []) (record {
@@ -197,3 +203,53 @@ pub given-elsewhere : box_test 36 (distance_system (pos 0 ∷ pos 0 ∷ []) (pos
     (record { held = 0 ∷ 2 ∷ 3 ∷ []; solved = 1 ∷ []; retained = 0 ∷ []; suspects = []; inverse = negsuc (2 ^ 33 - 1) ∷ [] }) (16 ∷ []) ≡ unmet
 unfolding span_value span_slope newton_step box_test
 given-elsewhere = refl
+
+-- ---- whole certificates
+
+-- of a point at (3, 4) and its length 5, with these columns held and solved; as many rows and radii as solved columns
+abbrev point-parted : List ℕ → List ℕ → Certificate 36
+point-parted held solved = record {
+  radius_logs = map (λ c. negsuc 31) solved;
+  bound = 76;
+  spread = 608;
+  centre = pos (3 * 2 ^ 36) ∷ pos (4 * 2 ^ 36) ∷ pos (5 * 2 ^ 36) ∷ [];
+  held = held;
+  solved = solved;
+  retained = range_with_len 0 (length solved);
+  suspects = [];
+  inverse = record { rows = length solved; cols = length solved; cells = pos 85899345915 ∷ negsuc 8589934591 ∷ pos 68719476732 ∷ pos 0 ∷ [] };
+}
+
+pub length-solved : IsWhole 2 (point-parted (0 ∷ []) (1 ∷ 2 ∷ []))
+length-solved = record {
+  params_in = omega arith;
+  parts = each;
+  solved_in = All-cons (λ c. c < 3) 1 (2 ∷ []) (omega arith) (All-cons (λ c. c < 3) 2 [] (omega arith) (All-nil (λ c. c < 3)));
+  solved_rise = (omega arith, (omega arith, tt));
+  held_in = All-cons (λ c. c < 2) 0 [] (omega arith) (All-nil (λ c. c < 2));
+  held_rise = (omega arith, tt);
+  as_many_rows = refl;
+  as_many_radii = refl;
+  inverse_rows = refl;
+  inverse_cols = refl;
+  inverse = refl;
+}
+  where
+    each : (c : ℕ) → c < 3 → is_among (1 ∷ 2 ∷ []) c ≡ not (is_among (0 ∷ []) c)
+    each zero l = refl
+    each (suc zero) l = refl
+    each (suc (suc zero)) l = refl
+    each (suc (suc (suc c))) l = absurd (omega (arith, l))
+
+-- a length is never held; no column is left out, and none is both; and the columns rise
+pub length-held : IsWhole 2 (point-parted (0 ∷ 2 ∷ []) (1 ∷ [])) → ⊥
+length-held w = let l : 2 < 2 = w.held_in 1 0 (omega arith) in omega (arith, l)
+
+pub length-left_out : IsWhole 2 (point-parted (0 ∷ []) (1 ∷ [])) → ⊥
+length-left_out w = let e : false ≡ true = w.parts 2 (omega arith) in true≢false (sym e)
+
+pub column-twice : IsWhole 2 (point-parted (0 ∷ 1 ∷ []) (1 ∷ 2 ∷ [])) → ⊥
+column-twice w = let e : true ≡ false = w.parts 1 (omega arith) in true≢false e
+
+pub columns-fall : IsWhole 2 (point-parted (0 ∷ []) (2 ∷ 1 ∷ [])) → ⊥
+columns-fall w = let l : 3 ≤ 1 = w.solved_rise.1.0 in omega (arith, l)

@@ -1,8 +1,9 @@
 -- A visited system that can be tested fits.
-use Rattle.std.proofs.Common.{◌≡◌, ℕ, zero, suc, ◌<◌, arith, refl, sym, ◌∙◌, subst, List, [], ◌∷◌, length, get_or, map, Some, pos, Bool, true, false, ◌||◌}
+use Rattle.std.proofs.Common.{◌≡◌, ℕ, zero, suc, ◌<◌, arith, refl, ap, sym, ◌∙◌, subst, List, [], ◌∷◌, length, get_or, map, Some, pos, Bool, true, false, ◌||◌}
 use Rattle.std.specs.Prelude.{◌==◌, slice_get}
 use Rattle.std.specs.List.{All}
-use Rattle.std.proofs.lemmas.Bool.{eqb-true}
+use Rattle.std.proofs.Math.Bool.{or-true}
+use Rattle.std.proofs.lemmas.Bool.{eqb-true, eq-eqb}
 use Rattle.std.proofs.lemmas.List.{length-map}
 use Rattle.sk_expr.specs.Poly.{number, IsInRange}
 use Rattle.sk_expr.specs.System.{ForcedPivot}
@@ -10,11 +11,21 @@ use Rattle.sk_expr.specs.Tapes.{plain_tape, root_trees, row_tree, tree_at}
 use Rattle.sk_expr.specs.Visits.{system_of, IsTestable}
 use Rattle.sk_expr.specs.VisitLaws.{rows-at}
 use Rattle.sk_expr.specs.declared.visited.Visited.{Visited}
+use Rattle.sk_elim.specs.Elimination.{has_column}
 use Rattle.sk_elim.specs.PivotLaws.{AreApart, has}
 use Rattle.sk_krawczyk.specs.CertifiedLaws.{IsFit}
 
 abbrev pair : ForcedPivot → ℕ × ℕ
 pair f = (f.row, f.column)
+
+-- a column that one of the pairs has
+has-some : (c : ℕ) (fs : List ForcedPivot) (i : ℕ) (f : ForcedPivot) → slice_get fs i ≡ Some f → f.column ≡ c → has_column c (map pair fs) ≡ true
+has-some c [] i f o e = absurd cc
+has-some c (g ∷ fs) zero f o e =
+    let same : g ≡ f = cc in
+    let head : (g.column == c) ≡ true = eq-eqb g.column c (ap (λ (h : ForcedPivot). h.column) same ∙ e) in
+    rw head refl
+has-some c (g ∷ fs) (suc i) f o e = rw (has-some c fs i f o e) (or-true (g.column == c))
 
 -- a key that none of the pairs has
 has-none : (key : ℕ × ℕ → ℕ) (k : ℕ) (fs : List ForcedPivot) → ((i : ℕ) (f : ForcedPivot) → slice_get fs i ≡ Some f → key (pair f) ≡ k → ⊥) → has key k (map pair fs) ≡ false
@@ -51,6 +62,7 @@ testable-fits params v h =
     record {
       rows_in = rows-in v (length v.unknowns) (length v.cosines) h.in_range;
       params_in = h.forced.params_in;
+      auxiliaries_forced = λ c l o. let (i, f, at, is) = h.forced.each_column c l o in has-some c fs i f at is;
       columns_apart = apart (λ p. p.1) (length v.unknowns) fs (λ i f o. (h.forced.columns_in i f o).1) h.forced.columns_differ;
       rows_apart = apart (λ p. p.0) (length (root_trees (plain_tape v.tape))) fs (λ i f o. subst (λ (k : ℕ). f.row < k) (sym n) (h.forced.rows_in i f o)) h.forced.rows_differ;
     }

@@ -17,3 +17,4 @@ pub mod RowReadings
 pub mod ContractingBox
 pub mod StoredBox
 pub mod Answers
+pub mod WholeLaws

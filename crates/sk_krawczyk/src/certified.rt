@@ -1,7 +1,6 @@
-ghost use Rattle.std.specs.Prelude.{◌≡◌, ℕ, length, take, IfOk, IfSome, Some, MatchResult};
+ghost use Rattle.std.specs.Prelude.{◌≡◌, length, IfOk, IfSome, MatchResult};
 ghost use Rattle.sk_num.specs.Scale.{IsScale};
-ghost use Rattle.sk_expr.specs.Seen.{Seen, without_names};
-ghost use Rattle.sk_krawczyk.specs.Answers.{IsTried, IsCertified, StopsAs, IsSound, outcome_at, names_at};
+ghost use Rattle.sk_krawczyk.specs.Answers.{IsTried, IsCertified, StopsAs, IsSoundAt, outcome_at, names_at};
 
 use crate::certificate::Certificate;
 use crate::fault::CertFault;
@@ -29,9 +28,7 @@ pub fn try_at<P: AtPoint<S>, const S: u32>(
     ensures answer { let seen = P.seen_at system.now point.now in
         let outcome = outcome_at S (P.params_of system.now) seen in
         MatchResult result (IsTried (names_at seen) outcome) (StopsAs outcome) }
-    ensures sound { IfOk result (λ t. IfSome t.certificate (λ k. (seen : Seen) × (P.seen_at system.now point.now ≡ Some seen)
-        × IsSound (names_at (P.seen_at system.now point.now)) (without_names (P.params_of system.now) seen) k)) }
-    ensures begins { IfOk result (λ t. IfSome t.certificate (λ k. take (length point.now) k.centre ≡ point.now)) }
+    ensures sound { IfOk result (λ t. IfSome t.certificate (IsSoundAt (P.params_of system.now) (P.seen_at system.now) point.now)) }
 {
     let visited = match system.at(alloc, point) {
         Err(VisitFault::PastLimit) => return Err(CertFault::PastLimit),
@@ -56,9 +53,7 @@ pub fn certify<P: AtPoint<S>, const S: u32>(
     ensures answer { let seen = P.seen_at system.now point.now in
         let outcome = outcome_at S (P.params_of system.now) seen in
         MatchResult result (IsCertified (names_at seen) outcome) (StopsAs outcome) }
-    ensures sound { IfOk result (λ c. IfSome c (λ k. (seen : Seen) × (P.seen_at system.now point.now ≡ Some seen)
-        × IsSound (names_at (P.seen_at system.now point.now)) (without_names (P.params_of system.now) seen) k)) }
-    ensures begins { IfOk result (λ c. IfSome c (λ k. take (length point.now) k.centre ≡ point.now)) }
+    ensures sound { IfOk result (λ c. IfSome c (IsSoundAt (P.params_of system.now) (P.seen_at system.now) point.now)) }
 {
     match try_at(alloc, system, point) {
         Err(e) => Err(e),

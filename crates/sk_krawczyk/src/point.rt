@@ -10,7 +10,7 @@ ghost use Rattle.sk_elim.specs.Result.{IsElimination};
 ghost use Rattle.sk_elim.specs.PartLaws.{HasParts};
 ghost use Rattle.sk_krawczyk.specs.Box.{basis_of, radius_of};
 ghost use Rattle.sk_krawczyk.specs.IntervalTest.{Outcome, stops, over_limit, slopes_at, forced_pairs, newton_steps, are_near, box_test, step_test, interval_test};
-ghost use Rattle.sk_krawczyk.specs.Answers.{IsTried, StopsAs, IsTested, IsSound, IsBasis, plain_basis};
+ghost use Rattle.sk_krawczyk.specs.Answers.{IsTried, StopsAs, IsTested, IsOfPass, IsBasis, plain_basis};
 ghost use Rattle.sk_krawczyk.specs.declared.fault.CertFault.TheVariants.{NoMemory};
 
 use crate::basis::Basis;
@@ -210,8 +210,9 @@ fn test_basis<const S: u32>(
 }
 
 /// The interval test of a system at a point: elimination of the slopes there, Newton's step, the box of the least radii,
-/// and the conditions over it. The certificate is present exactly where the test passes. Flat comes exactly where a forced
-/// pivot is flat, PastLimit exactly where a number passes the limit, whichever is met first.
+/// and the conditions over it. The certificate is present exactly where the test passes; it is whole, and its box is sound.
+/// Flat comes exactly where a forced pivot is flat, PastLimit exactly where a number passes the limit, whichever is met
+/// first.
 pub fn try_point<const S: u32>(
     alloc: Global,
     v: &Visited<S>,
@@ -221,7 +222,7 @@ pub fn try_point<const S: u32>(
     requires testable { IsTestable params v.now }
     ensures answer { let outcome = interval_test S (system_of params v.now) in
         MatchResult result (IsTried v.now.rows outcome) (StopsAs outcome) }
-    ensures sound { IfOk result (λ t. IfSome t.certificate (IsSound v.now.rows (system_of params v.now))) }
+    ensures sound { IfOk result (λ t. IfSome t.certificate (IsOfPass v.now.rows (system_of params v.now))) }
 {
     let points = match points(alloc, &v.unknowns) {
         Err(e) => return Err(fault_of(e)),

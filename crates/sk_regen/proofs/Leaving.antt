@@ -11,13 +11,12 @@ use Rattle.sk_types.specs.declared.handle.ParamId.{ParamId}
 use Rattle.sk_types.specs.Params.{unknown_params}
 use Rattle.sk_expr.specs.declared.row.RowName.{RowName}
 use Rattle.sk_geom.specs.declared.fault.FrameFault.{FrameFault}
-use Rattle.sk_krawczyk.specs.Answers.{names_at}
+use Rattle.sk_krawczyk.specs.Answers.{IsSoundAt, names_at}
 use Rattle.sk_krawczyk.specs.IntervalTest.{Outcome}
 use Rattle.sk_model.specs.Typed.{Typed}
 use Rattle.sk_solve.specs.declared.report.Listed.{Listed}
 use Rattle.sk_solve.specs.declared.result.GroupResult.{GroupResult}
 use Rattle.sk_solve.specs.Held.{result_by}
-use Rattle.sk_solve.specs.Results.{IsSoundAt}
 use Rattle.sk_solve.specs.Search.{Found, verdict_over, search}
 use Rattle.sk_system.specs.GroupSystem.{GroupSystem, seen_at, acts_at}
 use Rattle.sk_regen.specs.Ground.{BoxesSound, IsGround, group_works}

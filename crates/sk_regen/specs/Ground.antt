@@ -10,10 +10,10 @@ use Rattle.sk_types.specs.Lookups.{value_of, value_handle, act_handle}
 use Rattle.sk_types.specs.Params.{unknown_params}
 use Rattle.sk_chain.specs.Laws.{IsOutlineOf}
 use Rattle.sk_chain.specs.Lookups.{group_at}
+use Rattle.sk_krawczyk.specs.Answers.{IsSoundAt}
 use Rattle.sk_model.specs.Checked.{AreChecked}
 use Rattle.sk_model.specs.Typed.{Typed}
 use Rattle.sk_solve.specs.declared.report.Listed.{Listed}
-use Rattle.sk_solve.specs.Results.{IsSoundAt}
 use Rattle.sk_regen.specs.Works.{Works}
 use Rattle.sk_regen.specs.Regeneration.{Left, unknowns, fixed_of}
 use Rattle.sk_regen.specs.GroupWorks.{all_params, all_acts, params_of, is_one_of, start_of, bad_frame_of, seen_of, acts_of, first_numbers}

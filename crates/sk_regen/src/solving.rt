@@ -4,9 +4,8 @@ ghost use Rattle.std.specs.Prelude.{◌≡◌, ◌+◌, ◌∷◌, [], length, m
 ghost use Rattle.sk_num.specs.Scale.{IsScale};
 ghost use Rattle.sk_types.specs.Lookups.{value_of};
 ghost use Rattle.sk_types.specs.Params.{unknown_params};
-ghost use Rattle.sk_krawczyk.specs.Answers.{names_at};
+ghost use Rattle.sk_krawczyk.specs.Answers.{IsSoundAt, names_at};
 ghost use Rattle.sk_solve.specs.Held.{result_by};
-ghost use Rattle.sk_solve.specs.Results.{IsSoundAt};
 ghost use Rattle.sk_solve.specs.Search.{verdict_over};
 ghost use Rattle.sk_system.specs.GroupSystem.{seen_at};
 ghost use Rattle.sk_system.specs.SystemViews.{system_of as made_of};

@@ -1,16 +1,15 @@
 -- What the lines of a block stand for.
-use Rattle.std.specs.Prelude.{◌≡◌, ℕ, ◌<◌, ◌≤◌, ℤ, Bool, not, List, map, length, Option, Some, None, is_some, Ok}
+use Rattle.std.specs.Prelude.{◌≡◌, ℕ, ℤ, Bool, not, List, map, length, Option, Some, None, is_some, Ok}
 use Rattle.std.specs.List.{All, filter}
 use Rattle.sk_num.specs.Limit.{IsInLimit}
 use Rattle.sk_num.specs.Scale.{IsScale}
 use Rattle.sk_num.specs.Spelling.{quantity_of}
 use Rattle.sk_types.specs.declared.handle.ParamId.{ParamId}
-use Rattle.sk_expr.specs.Columns.{is_among, RisesFrom}
 use Rattle.sk_expr.specs.System.{SystemAt}
 use Rattle.sk_expr.specs.declared.row.RowName.{RowName}
 use Rattle.sk_krawczyk.specs.IntervalTest.{Certificate as PlainCertificate}
 use Rattle.sk_krawczyk.specs.CertifiedBox.{certified_box}
-use Rattle.sk_krawczyk.specs.Answers.{radius_of_log, IsCertificate}
+use Rattle.sk_krawczyk.specs.Answers.{radius_of_log, IsCertificate, IsWhole}
 use Rattle.sk_krawczyk.specs.declared.certificate.Certificate.{Certificate}
 use Rattle.sk_report.specs.Block.{Param, Coordinate, PrintedBox, name_at, radius_log_at, printed_box}
 
@@ -22,17 +21,6 @@ CentreLaw = (s : ℕ) (params : List ParamId) (k : Certificate s) → IsScale s 
     map (λ (x : Coordinate). quantity_of s x.text) (printed_box params k).centre ≡ map (λ (z : ℤ). Ok z) k.centre
 
 -- ---- held and solved unknowns
-
--- Columns of a box: each is held or solved, and exactly one of these; the held ones are parameters; both lists rise; and there is one
--- radius for each solved column.
-pub record AreParted {s : ℕ} (params : List ParamId) (k : Certificate s) : Type 0 where
-  pub parts : (c : ℕ) → c < length k.centre → is_among k.solved c ≡ not (is_among k.held c)
-  pub solved_in : All (λ c. c < length k.centre) k.solved
-  pub solved_rise : RisesFrom 0 k.solved
-  pub held_in : All (λ c. c < length params) k.held
-  pub held_rise : RisesFrom 0 k.held
-  pub params_in : length params ≤ length k.centre
-  pub one_each : length k.radius_logs ≡ length k.solved
 
 abbrev pub is_wide : Coordinate → Bool
 is_wide x = is_some x.radius_log
@@ -51,7 +39,7 @@ pub record StandsFor {s : ℕ} (params : List ParamId) (k : Certificate s) (b : 
   pub held : map (λ (x : Coordinate). x.name) (still b) ≡ map Param b.held
 
 abbrev pub LineLaw : Type 0
-LineLaw = (s : ℕ) (params : List ParamId) (k : Certificate s) → AreParted params k → StandsFor params k (printed_box params k)
+LineLaw = (s : ℕ) (params : List ParamId) (k : Certificate s) → IsWhole (length params) k → StandsFor params k (printed_box params k)
 
 -- ---- radii
 

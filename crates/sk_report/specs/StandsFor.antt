@@ -138,19 +138,19 @@ not-not false = refl
 
 pub line-law : LineLaw
 unfolding printed_box coordinates
-line-law s params k parted =
-    let wide-passes = picked (λ c. is_some (radius_log_at k.solved k.radius_logs c)) 0 (length k.centre) k.solved parted.solved_rise (λ i d l. let o = parted.solved_in i d l in omega (arith, o))
-    (λ c l o. has-log k.solved k.radius_logs parted.solved_rise parted.one_each c) in
-    let still-passes = picked (λ c. not (is_some (radius_log_at k.solved k.radius_logs c))) 0 (length k.centre) k.held parted.held_rise
-    (λ i d l. let o = parted.held_in i d l in omega (arith, o, parted.params_in))
-    (λ c l o. ap not (has-log k.solved k.radius_logs parted.solved_rise parted.one_each c ∙ parted.parts c (omega (arith, o))) ∙ not-not (is_among k.held c)) in
+line-law s params k whole =
+    let wide-passes = picked (λ c. is_some (radius_log_at k.solved k.radius_logs c)) 0 (length k.centre) k.solved whole.solved_rise (λ i d l. let o = whole.solved_in i d l in omega (arith, o))
+    (λ c l o. has-log k.solved k.radius_logs whole.solved_rise whole.as_many_radii c) in
+    let still-passes = picked (λ c. not (is_some (radius_log_at k.solved k.radius_logs c))) 0 (length k.centre) k.held whole.held_rise
+    (λ i d l. let o = whole.held_in i d l in omega (arith, o, whole.params_in))
+    (λ c l o. ap not (has-log k.solved k.radius_logs whole.solved_rise whole.as_many_radii c ∙ whole.parts c (omega (arith, o))) ∙ not-not (is_among k.held c)) in
     record {
       solved = parts-of params k is_wide (λ x. x.name) (λ c. is_some (radius_log_at k.solved k.radius_logs c)) (name_at params) (λ c x. refl) (λ c x. refl) 0 k.centre
           ∙ ap (map (name_at params)) wide-passes;
       radii = parts-of params k is_wide (λ x. x.radius_log) (λ c. is_some (radius_log_at k.solved k.radius_logs c)) (radius_log_at k.solved k.radius_logs) (λ c x. refl) (λ c x. refl) 0 k.centre
           ∙ ap (map (radius_log_at k.solved k.radius_logs)) wide-passes
-          ∙ found (radius_log_at k.solved k.radius_logs) k.solved k.radius_logs parted.one_each (log-at k.solved k.radius_logs parted.solved_rise parted.one_each);
+          ∙ found (radius_log_at k.solved k.radius_logs) k.solved k.radius_logs whole.as_many_radii (log-at k.solved k.radius_logs whole.solved_rise whole.as_many_radii);
       held = parts-of params k (λ x. not (is_wide x)) (λ x. x.name) (λ c. not (is_some (radius_log_at k.solved k.radius_logs c))) (name_at params) (λ c x. refl) (λ c x. refl) 0 k.centre
           ∙ ap (map (name_at params)) still-passes
-          ∙ named params k.held parted.held_in;
+          ∙ named params k.held whole.held_in;
     }

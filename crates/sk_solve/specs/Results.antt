@@ -1,9 +1,9 @@
 -- The code's results beside the definition's.
-use Rattle.std.specs.Prelude.{◌≡◌, ℕ, suc, List, ℤ, Option, Some, None, length, take, IfSome}
-use Rattle.sk_expr.specs.Seen.{Seen, without_names}
+use Rattle.std.specs.Prelude.{◌≡◌, ℕ, suc, List, ℤ, Option, Some, None, IfSome}
+use Rattle.sk_expr.specs.Seen.{Seen}
 use Rattle.sk_expr.specs.declared.row.RowName.{RowName}
 use Rattle.sk_krawczyk.specs.IntervalTest.{Outcome, stops, fails, passes, Certificate}
-use Rattle.sk_krawczyk.specs.Answers.{IsCertificate, IsSound, names_at}
+use Rattle.sk_krawczyk.specs.Answers.{IsCertificate, IsSoundAt}
 use Rattle.sk_krawczyk.specs.declared.certificate.Certificate.{Certificate as StoredCertificate}
 use Rattle.sk_solve.specs.declared.result.GroupResult.{GroupResult}
 use Rattle.sk_solve.specs.declared.visit.Visit.{Visit}
@@ -21,10 +21,6 @@ pub record IsFound {s : ℕ} (names : List ℤ → List RowName) (f : Found) (g 
   pub point : g.point ≡ f.point
   pub certificate : IsHeld (names f.point) f.certificate g.certificate
 
--- the box of a certificate is sound, for the system at a point
-abbrev pub IsSoundAt : {s : ℕ} → ℕ → (List ℤ → Option Seen) → List ℤ → StoredCertificate s → Type 0
-IsSoundAt params at x k = (seen : Seen) × (at x ≡ Some seen) × IsSound (names_at (at x)) (without_names params seen) k
-
 -- ---- inside the crate
 
 -- what a visited point gives, beside the test's outcome
@@ -33,18 +29,14 @@ IsVisit names (stops h) v = v ≡ Stops (verdict_of h)
 IsVisit names (fails solved step) v = v ≡ Fails solved step
 IsVisit {s} names (passes solved step c) v = (k : StoredCertificate s) × (v ≡ Passes k) × IsCertificate names k c
 
--- its certificate is sound, and its centre begins with the point
-pub record IsProved {s : ℕ} (params : ℕ) (at : List ℤ → Option Seen) (x : List ℤ) (k : StoredCertificate s) : Type 0 where
-  pub sound : IsSoundAt params at x k
-  pub begins : take (length x) k.centre ≡ x
-
+-- its certificate is of a test that passes there
 abbrev pub VisitProved : {s : ℕ} → ℕ → (List ℤ → Option Seen) → List ℤ → Visit s → Type 0
 VisitProved params at x (Stops v) = Unit {0}
 VisitProved params at x (Fails solved step) = Unit {0}
-VisitProved params at x (Passes k) = IsProved params at x k
+VisitProved params at x (Passes k) = IsSoundAt params at x k
 
 abbrev pub ResultProved : {s : ℕ} → ℕ → (List ℤ → Option Seen) → GroupResult s → Type 0
-ResultProved params at g = IfSome g.certificate (IsProved params at g.point)
+ResultProved params at g = IfSome g.certificate (IsSoundAt params at g.point)
 
 -- what one of the points decides: how the group comes out, or the next point
 abbrev pub Decides : {s : ℕ} → (List ℤ → Outcome) → (List ℤ → List RowName) → List ℤ → List ℤ → List ℤ → Option (GroupResult s) → Type 0

@@ -1,9 +1,9 @@
-ghost use Rattle.std.specs.Prelude.{◌≡◌, ◌+◌, ℕ, ℤ, List, length, take, IfOk, IfSome, Some};
+ghost use Rattle.std.specs.Prelude.{◌≡◌, ◌+◌, ℕ, ℤ, List, length, IfOk, IfSome, Some};
 ghost use Rattle.sk_num.specs.Scale.{IsScale};
-ghost use Rattle.sk_krawczyk.specs.Answers.{outcome_at, names_at};
+ghost use Rattle.sk_krawczyk.specs.Answers.{IsSoundAt, outcome_at, names_at};
 ghost use Rattle.sk_solve.specs.Search.{searched, verdict_over};
 ghost use Rattle.sk_solve.specs.Held.{result_by};
-ghost use Rattle.sk_solve.specs.Results.{IsFound, IsSoundAt, ResultProved, Decides};
+ghost use Rattle.sk_solve.specs.Results.{IsFound, ResultProved, Decides};
 
 use crate::NoMemory;
 use crate::moving::step_back;
@@ -98,7 +98,6 @@ pub fn solve_group<P: AtPoint<S>, L: Ledger, const S: u32>(
     ensures answer { IfOk result (IsFound (λ x. names_at (P.seen_at system.now x)) (verdict_over S (P.params_of system.now) (P.seen_at system.now) start.now)) }
     ensures held { IfOk result (λ g. g ≡ result_by (λ x. names_at (P.seen_at system.now x)) (verdict_over S (P.params_of system.now) (P.seen_at system.now) start.now)) }
     ensures sound { IfOk result (λ g. IfSome g.certificate (IsSoundAt (P.params_of system.now) (P.seen_at system.now) g.point)) }
-    ensures begins { IfOk result (λ g. IfSome g.certificate (λ k. take (length g.point) k.centre ≡ g.point)) }
     ensures steps { steps.new ≡ steps.old + 1 }
 {
     steps.tick();

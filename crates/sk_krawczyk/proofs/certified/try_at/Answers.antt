@@ -1,9 +1,9 @@
-use Rattle.std.proofs.Common.{ℕ, subst}
+use Rattle.std.proofs.Common.{ℕ, refl, subst}
 use Rattle.std.specs.Prelude.{IfSome}
 use Rattle.sk_expr.specs.Visits.{system_of}
 use Rattle.sk_krawczyk.specs.IntervalTest.{interval_test}
-use Rattle.sk_krawczyk.specs.Answers.{IsTried, StopsAs, IsSound}
-use Rattle.sk_krawczyk.proofs.CertifyLemmas.{tried-at, stops-at, sound-at, begins-at}
+use Rattle.sk_krawczyk.specs.Answers.{IsTried, StopsAs, IsOfPass}
+use Rattle.sk_krawczyk.proofs.CertifyLemmas.{tried-at, stops-at, sound-at}
 use Rattle.sk_krawczyk.proofs.certified.try_at.Goals as goal
 
 pub returns-in-Err-clause-answer : goal.returns-in-Err-clause-answer
@@ -29,17 +29,9 @@ pub returns-clause-sound : goal.returns-clause-sound
 returns-clause-sound g c =
     let s = g.row.S in
     let params = g.P.AtPoint.params_of c.args.system.now in
-    let seen = g.P.AtPoint.seen_at c.args.system.now c.args.point.now in
+    let at = g.P.AtPoint.seen_at c.args.system.now in
+    let x = c.args.point.now in
     let v = c.in-Ok.visited in
     let t = c.in-Ok-try_point.tried in
-    let sound = subst (λ (k : ℕ). IfSome t.certificate (IsSound v.rows (system_of k v))) c.params.ensures c.in-Ok-try_point.ensures.sound in
-    sound-at params v c.in-Ok.ensures.testable seen c.in-Ok.ensures.seen t.certificate sound
-
-pub returns-clause-begins : goal.returns-clause-begins
-returns-clause-begins g c =
-    let s = g.row.S in
-    let params = g.P.AtPoint.params_of c.args.system.now in
-    let v = c.in-Ok.visited in
-    let t = c.in-Ok-try_point.tried in
-    let tried = subst (λ (k : ℕ). IsTried v.rows (interval_test s (system_of k v)) t) c.params.ensures c.in-Ok-try_point.ensures.answer in
-    begins-at v.rows (system_of params v) c.args.point.now c.in-Ok.ensures.begins.unknowns t tried
+    let sound = subst (λ (k : ℕ). IfSome t.certificate (IsOfPass v.rows (system_of k v))) c.params.ensures c.in-Ok-try_point.ensures.sound in
+    sound-at params v c.in-Ok.ensures.testable (at x) c.in-Ok.ensures.seen at x refl c.in-Ok.ensures.begins.unknowns t.certificate sound
