@@ -18,6 +18,7 @@ mod sizes;
 pub use chain::{order_groups, outline, outlined};
 pub use dependence::depends;
 pub use dirty::dirty_set;
+pub use lookups::group_at;
 pub use std::alloc::AllocError as NoMemory;
 
 /// What holds of every outline, and of the remap lists beside it.

@@ -32,7 +32,7 @@ pub(crate) fn place_in(places: &IndexSet<GroupId>, group: GroupId) -> Option<usi
 }
 
 /// The group with a handle; None where there is none.
-pub(crate) fn group_at<const S: u32>(groups: &[Group<S>], id: GroupId) -> Option<&Group<S>>
+pub fn group_at<const S: u32>(groups: &[Group<S>], id: GroupId) -> Option<&Group<S>>
     ensures { option_copied result ≡ group_at id.0 groups.now }
 {
     for group in groups {

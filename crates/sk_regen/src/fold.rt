@@ -18,10 +18,11 @@ ghost use Rattle.sk_regen.specs.Below.{BoxesOver, model_works, over_dirty};
 ghost use Rattle.sk_regen.specs.Regeneration.{is_listed, left_over, taken, regenerated_over};
 
 use crate::NoMemory;
-use crate::ground::{Ground, group_at, places_of};
+use crate::ground::{Ground, places_of};
 use crate::references::first_numbers;
 use crate::solving::{left_as, left_by};
 use crate::state::{Left, State};
+use sk_chain::group_at;
 use sk_count::Steps;
 use sk_model::Model;
 use sk_num::Items;

@@ -38,15 +38,3 @@ pub(crate) fn places_of(
     }
     Ok(places)
 }
-
-/// The group with a handle; None where there is none.
-pub(crate) fn group_at<const S: u32>(groups: &[Group<S>], id: GroupId) -> Option<&Group<S>>
-    ensures { option_copied result ≡ group_at id.0 groups.now }
-{
-    for group in groups {
-        if id.0 == group.id.0 {
-            return Some(group);
-        }
-    }
-    None
-}

@@ -14,9 +14,9 @@ ghost use Rattle.sk_regen.specs.GroupWorks.{reference, reference_by, reference_q
 
 use crate::NoMemory;
 use crate::blank::{all_acts, all_params};
-use crate::ground::group_at;
 use crate::numbers::{put_acts, put_params};
 use crate::systems::acts_over;
+use sk_chain::group_at;
 use sk_model::Model;
 use sk_num::{Grid, Items};
 use sk_types::{
