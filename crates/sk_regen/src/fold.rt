@@ -219,6 +219,7 @@ pub fn regenerate<L: Ledger, const S: u32>(
     requires outline { IsOutlineOf model.old.lists outline.now }
     ensures report { IfOk result (λ r. r.0.groups ≡ (over_dirty model.old.lists outline.now dirty.now before.now.groups).members) }
     ensures numbers { IfOk result (λ r. r.1 ≡ (over_dirty model.old.lists outline.now dirty.now before.now.groups).numbers) }
+    ensures rise { IfOk result (λ r. RiseBy act_handle r.1.acts) }
     ensures sound { OnOk result (BoxesOver model.old.lists outline.now dirty.now before.now.groups (reported outline.now)) }
     ensures blocks { OnOk result (model.new.blocks ≡ text_with (over_dirty model.old.lists outline.now dirty.now before.now.groups).numbers model.old.lists outline.now model.old.blocks) }
     ensures lists { OnOk result (model.new.lists ≡ record model.old.lists { params = with_params (over_dirty model.old.lists outline.now dirty.now before.now.groups).numbers.params model.old.lists.params }) }

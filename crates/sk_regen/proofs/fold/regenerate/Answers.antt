@@ -34,3 +34,6 @@ returns-clause-sound g c =
     let o = c.args.outline.now in
     subst (λ (before : List (Listed g.row.S)). BoxesOver m o c.args.dirty.now before (reported o)) c.as_slice.ensures
     (subst (λ (order : List GroupId). BoxesOver m o c.args.dirty.now c.as_slice.result.now order) (c.deref.ensures.value ∙ c.in_ok-order.ensures) c.in_ok-state.ensures.sound)
+
+pub returns-clause-rise : goal.returns-clause-rise
+returns-clause-rise g c = whole-rise c.requires.scale c.args.model.now.lists c.args.outline.now c.in_ok-state.state.numbers c.over_groups.ensures.checked c.requires.outline c.in_ok-state.ensures.whole
