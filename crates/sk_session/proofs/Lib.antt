@@ -1,0 +1,4 @@
+pub mod Everyone
+pub mod Faults
+pub mod Groups
+pub mod Opened
