@@ -1,10 +1,8 @@
--- What the folder gave.
+-- What the folder gave for a name.
 use Rattle.std.proofs.Common.{◌≡◌, ℕ, List, Option, Some, None, sym, refl}
 use Rattle.std.specs.declared.vec.Vec.{Vec}
 use Rattle.sk_files.specs.Files.{Files, held, IsTheRead}
-use Rattle.sk_app.specs.Command.{Command, model_name}
-use Rattle.sk_app.specs.Answer.{Reply, NoFile, Gave}
-use Rattle.sk_app.specs.Ends.{IsReply, IsModelReply}
+use Rattle.sk_link.specs.Replies.{Reply, NoFile, Gave, IsReply}
 
 pub gave_reply : {A : Type 0} (told : Option Files) (name : List ℕ) (rose : Type 0) (v : Vec ℕ A) → IsTheRead told name (Some v) → IsReply told name rose (Gave v.items)
 gave_reply None name rose v e = tt
@@ -15,10 +13,6 @@ reply_held : (files : Files) (name : List ℕ) (rose : Type 0) (o : Option (List
 reply_held files name rose None e = (NoFile, e)
 reply_held files name rose (Some bytes) e = (Gave bytes, e)
 
-some_held : (told : Option Files) (name : List ℕ) (rose : Type 0) → (reply : Reply) × IsReply told name rose reply
-some_held None name rose = (NoFile, tt)
-some_held (Some files) name rose = reply_held files name rose (held files name) refl
-
-pub some_reply : (command : Option Command) (told : Option Files) (rose : Type 0) → (reply : Reply) × IsModelReply command told rose reply
-some_reply None told rose = (NoFile, tt)
-some_reply (Some command) told rose = some_held told (model_name command) rose
+pub some_reply : (told : Option Files) (name : List ℕ) (rose : Type 0) → (reply : Reply) × IsReply told name rose reply
+some_reply None name rose = (NoFile, tt)
+some_reply (Some files) name rose = reply_held files name rose (held files name) refl

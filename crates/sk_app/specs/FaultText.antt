@@ -1,4 +1,4 @@
--- Why a model is refused, in words.
+-- Why a command isn't carried out, in words.
 use Rattle.std.specs.Prelude.{ℕ, List, [], ◌++◌, codes}
 use Rattle.std.specs.Fmt.{decimal, signed_decimal}
 use Rattle.sk_records.specs.declared.faults.ReadFault.{ReadFault}
@@ -9,10 +9,8 @@ use Rattle.sk_model.specs.declared.faults.Reason.{Reason}
 use Rattle.sk_model.specs.declared.faults.Reason.TheVariants as reason
 use Rattle.sk_model.specs.declared.faults.What.{What}
 use Rattle.sk_model.specs.declared.faults.What.TheVariants as what
-use Rattle.sk_app.specs.declared.fault.StageFault.TheVariants.{NotYet}
-use Rattle.sk_app.specs.declared.fault.Refusal.{Refusal}
-use Rattle.sk_app.specs.declared.fault.Refusal.TheVariants.{Text, Typed, Stage}
-use Rattle.sk_app.specs.ReportText.{handle, spaced_handle}
+use Rattle.sk_report.specs.ReportText.{line, handle, spaced_handle}
+use Rattle.sk_app.specs.Fault.{Fault, BadWords, BadText, BadModel, BadPart, BadPartNumber, Absent, Unread, NoGroup}
 
 -- lines and counts are decimal, handles have eight digits; want of memory isn't told here
 unfoldable pub read_fault_text : ReadFault → List ℕ
@@ -53,7 +51,15 @@ model_fault_text (model.BadValue h) = codes "bad value " ++ handle h
 model_fault_text (model.TooMany w) = codes "too many " ++ what_text w
 model_fault_text model.NoMemory = []
 
-unfoldable pub refusal_text : Refusal → List ℕ
-refusal_text (Text f) = read_fault_text f
-refusal_text (Typed f) = model_fault_text f
-refusal_text (Stage (NotYet h)) = codes "not yet " ++ handle h
+unfoldable pub fault_text : Fault → List ℕ
+fault_text BadWords = codes "words"
+fault_text (BadText f) = codes "model " ++ read_fault_text f
+fault_text (BadModel f) = codes "model " ++ model_fault_text f
+fault_text (BadPart name f) = codes "part " ++ name ++ codes " " ++ read_fault_text f
+fault_text (BadPartNumber name n) = codes "part " ++ name ++ codes " number at " ++ decimal n
+fault_text (Absent name) = codes "absent " ++ name
+fault_text (Unread name) = codes "read " ++ name
+fault_text (NoGroup h) = codes "group " ++ handle h
+
+abbrev pub fault_line : List ℕ → List ℕ
+fault_line text = line (codes "fault " ++ text)

@@ -1,12 +1,10 @@
 pub mod Command
-pub mod Chain
+pub mod Fault
 pub mod FaultText
-pub mod Built
-pub mod DistanceTest
-pub mod Certified
-pub mod ReportText
+pub mod Summary
 pub mod Answer
 pub mod Ends
+pub mod Headline
 pub mod Lent
-pub mod Printed
+pub mod Prepares
 pub mod Examples

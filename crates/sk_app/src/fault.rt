@@ -1,86 +1,65 @@
 // Why a command isn't carried out.
 ghost use Rattle.std.specs.Prelude.{◌≡◌};
-ghost use Rattle.sk_app.specs.declared.fault.Stop.TheVariants.{NoMemory, Refused};
-ghost use Rattle.sk_app.specs.declared.fault.Refusal.TheVariants.{Stage};
-ghost use Rattle.sk_app.specs.Lent.{stop_of_text, stop_of_model};
+ghost use Rattle.sk_app.specs.declared.fault.Stop.TheVariants.{NoMemory};
+ghost use Rattle.sk_app.specs.Fault.{fault_status};
+ghost use Rattle.sk_app.specs.Lent.{fault_of};
 
 use crate::NoMemory;
+use crate::status::Status;
 use sk_model::ModelFault;
 use sk_records::ReadFault;
-use std::alloc::AllocFailed;
 
-/// A form of input that isn't built yet.
-#[derive(Clone, Copy, Debug, PartialEq, Eq)]
-pub enum StageFault {
-    /// The handle of the first thing that isn't built: a group, a request or a constraint, by the kind of its own; or the
-    /// first group whose form isn't built.
-    NotYet(u32),
-}
-
-/// Why the text of a model isn't taken.
-#[derive(Clone, Copy, Debug, PartialEq, Eq)]
-pub(crate) enum Refusal {
-    /// Its lines are no text of the format.
+/// Why a command isn't carried out; names are those of files.
+#[derive(Clone, Copy)]
+pub(crate) enum Fault<'w> {
+    /// The words are no command.
+    Words,
+    /// The lines of the model are no text of the format.
     Text(ReadFault),
-    /// Its records are no model.
-    Typed(ModelFault),
-    /// Its form isn't built yet.
-    Stage(StageFault),
+    /// The records of the model are no model, or what they name isn't there.
+    Model(ModelFault),
+    /// The lines of a linked part are no text of the format.
+    Part(&'w str, ReadFault),
+    /// In a linked part the value on a line doesn't read.
+    PartNumber(&'w str, usize),
+    /// There is no file with this name.
+    Absent(&'w str),
+    /// The folder failed at the read of this name.
+    Unread(&'w str),
+    /// The model has no group with this handle.
+    Group(u32),
 }
 
-/// Why a model isn't reported.
-#[derive(Clone, Copy, Debug, PartialEq, Eq)]
-pub(crate) enum Stop {
-    /// Its text is refused.
-    Refused(Refusal),
+impl Fault<'_> {
+    /// The status of a run that it ends.
+    pub(crate) fn status(&self) -> Status
+        ensures { result ≡ fault_status (fault_of self.now) }
+    {
+        match self {
+            Fault::Words => Status::Words,
+            Fault::Text(_) | Fault::Model(_) | Fault::Part(_, _) | Fault::PartNumber(_, _) => {
+                Status::Model
+            }
+            Fault::Absent(_) => Status::Absent,
+            Fault::Unread(_) => Status::Unread,
+            Fault::Group(_) => Status::Group,
+        }
+    }
+}
+
+/// Why something that a command needs isn't there.
+#[derive(Clone, Copy)]
+pub(crate) enum Stop<'w> {
+    /// The command isn't carried out.
+    Refused(Fault<'w>),
     /// Memory was wanted.
     NoMemory,
 }
 
-impl From<StageFault> for Stop {
-    ghost from_gives = { λ f s. s ≡ Refused (Stage f) };
-
-    fn from(fault: StageFault) -> Self {
-        Stop::Refused(Refusal::Stage(fault))
-    }
-}
-
-impl From<ReadFault> for Stop {
-    ghost from_gives = { λ f s. s ≡ stop_of_text f };
-
-    #[tactic(auto, unfolding(crate::specs::Lent::stop_of_text))]
-    fn from(fault: ReadFault) -> Self {
-        match fault {
-            ReadFault::NoMemory => Stop::NoMemory,
-            fault => Stop::Refused(Refusal::Text(fault)),
-        }
-    }
-}
-
-impl From<ModelFault> for Stop {
-    ghost from_gives = { λ f s. s ≡ stop_of_model f };
-
-    #[tactic(auto, unfolding(crate::specs::Lent::stop_of_model))]
-    fn from(fault: ModelFault) -> Self {
-        match fault {
-            ModelFault::NoMemory => Stop::NoMemory,
-            fault => Stop::Refused(Refusal::Typed(fault)),
-        }
-    }
-}
-
-impl From<NoMemory> for Stop {
+impl From<NoMemory> for Stop<'_> {
     ghost from_gives = { λ _ s. s ≡ NoMemory };
 
     fn from(_: NoMemory) -> Self {
-        Stop::NoMemory
-    }
-}
-
-impl<T: Drop> From<AllocFailed<T>> for Stop {
-    ghost from_gives = { λ _ s. s ≡ NoMemory };
-
-    fn from(_: AllocFailed<T>) -> Self {
         Stop::NoMemory
     }
 }

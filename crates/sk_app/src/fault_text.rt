@@ -1,15 +1,32 @@
 // Why a model is refused, in words.
 ghost use Rattle.std.specs.Prelude.{◌≡◌, ◌++◌, OnOk, codes};
 ghost use Rattle.std.specs.Fmt.{decimal, signed_decimal};
-ghost use Rattle.sk_app.specs.ReportText.{handle as handle_bytes, spaced_handle};
-ghost use Rattle.sk_app.specs.FaultText.{reason_text as reason_bytes, what_text as what_bytes, read_fault_text, model_fault_text, refusal_text};
+ghost use Rattle.sk_report.specs.ReportText.{handle as handle_bytes, spaced_handle};
+ghost use Rattle.sk_app.specs.Lent.{fault_of};
+ghost use Rattle.sk_app.specs.FaultText.{reason_text as reason_bytes, what_text as what_bytes, read_fault_text, model_fault_text, fault_text};
 
 use crate::NoMemory;
-use crate::fault::{Refusal, StageFault};
-use crate::report::{push_count, push_handle};
+use crate::fault::Fault;
 use itoa::Buffer;
 use sk_model::{ModelFault, Reason, What};
+use sk_num::handle_text;
 use sk_records::ReadFault;
+
+/// Puts a count behind the text.
+pub(crate) fn push_count(out: &mut Vec<u8>, count: u128) -> Result<(), NoMemory>
+    ensures { OnOk result (out.new.items ≡ out.old.items ++ decimal count) }
+{
+    out.extend_from_slice(Buffer::new().format(count).as_bytes())?;
+    Ok(())
+}
+
+// Puts a handle in eight digits behind the text.
+fn push_handle(out: &mut Vec<u8>, handle: u32) -> Result<(), NoMemory>
+    ensures { OnOk result (out.new.items ≡ out.old.items ++ handle_bytes handle) }
+{
+    out.extend_from_slice(&handle_text(handle))?;
+    Ok(())
+}
 
 #[tactic(auto, unfolding(crate::specs::FaultText::reason_text))]
 fn reason_text(reason: Reason) -> &'static [u8]
@@ -116,14 +133,56 @@ fn push_model_fault(out: &mut Vec<u8>, fault: ModelFault) -> Result<(), NoMemory
     }
 }
 
-/// Puts the text of a refusal behind the text.
-#[tactic(auto, unfolding(crate::specs::FaultText::refusal_text))]
-pub(crate) fn push_refusal(out: &mut Vec<u8>, refusal: Refusal) -> Result<(), NoMemory>
-    ensures { OnOk result (out.new.items ≡ out.old.items ++ refusal_text refusal) }
+// Puts words with a name behind them.
+fn push_name(out: &mut Vec<u8>, words: &[u8], name: &str) -> Result<(), NoMemory>
+    ensures { OnOk result (out.new.items ≡ out.old.items ++ (words.now ++ name.now)) }
 {
-    match refusal {
-        Refusal::Text(fault) => push_read_fault(out, fault),
-        Refusal::Typed(fault) => push_model_fault(out, fault),
-        Refusal::Stage(StageFault::NotYet(handle)) => push_thing(out, b"not yet ", handle),
+    out.extend_from_slice(words)?;
+    out.extend_from_slice(name.as_bytes())
+}
+
+fn push_text(out: &mut Vec<u8>, fault: ReadFault) -> Result<(), NoMemory>
+    ensures { OnOk result (out.new.items ≡ out.old.items ++ (codes "model " ++ read_fault_text fault)) }
+{
+    out.extend_from_slice(b"model ")?;
+    push_read_fault(out, fault)
+}
+
+fn push_model(out: &mut Vec<u8>, fault: ModelFault) -> Result<(), NoMemory>
+    ensures { OnOk result (out.new.items ≡ out.old.items ++ (codes "model " ++ model_fault_text fault)) }
+{
+    out.extend_from_slice(b"model ")?;
+    push_model_fault(out, fault)
+}
+
+fn push_part(out: &mut Vec<u8>, name: &str, fault: ReadFault) -> Result<(), NoMemory>
+    ensures { OnOk result (out.new.items ≡ out.old.items ++ (codes "part " ++ (name.now ++ (codes " " ++ read_fault_text fault)))) }
+{
+    push_name(out, b"part ", name)?;
+    out.extend_from_slice(b" ")?;
+    push_read_fault(out, fault)
+}
+
+fn push_part_number(out: &mut Vec<u8>, name: &str, line: u128) -> Result<(), NoMemory>
+    ensures { OnOk result (out.new.items ≡ out.old.items ++ (codes "part " ++ (name.now ++ (codes " number at " ++ decimal line)))) }
+{
+    push_name(out, b"part ", name)?;
+    push_line(out, b" number at ", line)
+}
+
+/// Puts the text of a fault behind the text.
+#[tactic(auto, unfolding(crate::specs::FaultText::fault_text))]
+pub(crate) fn push_fault(out: &mut Vec<u8>, fault: &Fault<'_>) -> Result<(), NoMemory>
+    ensures { OnOk result (out.new.items ≡ out.old.items ++ fault_text (fault_of fault.now)) }
+{
+    match fault {
+        Fault::Words => out.extend_from_slice(b"words"),
+        Fault::Text(fault) => push_text(out, *fault),
+        Fault::Model(fault) => push_model(out, *fault),
+        Fault::Part(name, fault) => push_part(out, name, *fault),
+        Fault::PartNumber(name, line) => push_part_number(out, name, *line as u128),
+        Fault::Absent(name) => push_name(out, b"absent ", name),
+        Fault::Unread(name) => push_name(out, b"read ", name),
+        Fault::Group(group) => push_thing(out, b"group ", *group),
     }
 }

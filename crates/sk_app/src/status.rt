@@ -7,21 +7,27 @@ ghost use Rattle.sk_app.specs.Ends.{status_code, code_of};
 pub(crate) enum Status {
     /// It is done, and each listed group is certified.
     Done,
+    /// It is done, and some listed group isn't certified.
+    NotAll,
     /// The words are no command.
     Words,
-    /// The model is refused.
+    /// The model, or a linked part, is refused.
     Model,
-    /// The model is absent.
+    /// The model, or a linked part, is absent.
     Absent,
     /// The folder failed at a read.
     Unread,
+    /// The model has no such group.
+    Group,
 }
 
 /// How a run ends.
 #[derive(Clone, Copy, Debug, PartialEq, Eq)]
 pub(crate) enum End {
-    /// All pieces were put.
+    /// All pieces were put, and the file was written.
     Full(Status),
+    /// The folder failed at the write.
+    WriteFailed,
     /// The sink failed at a put.
     SinkFailed,
     /// Memory was wanted.
@@ -34,10 +40,12 @@ impl Status {
     {
         match self {
             Status::Done => 0,
+            Status::NotAll => 10,
             Status::Words => 1,
             Status::Model => 2,
             Status::Absent => 3,
             Status::Unread => 4,
+            Status::Group => 9,
         }
     }
 }
@@ -49,6 +57,7 @@ impl End {
     {
         match self {
             End::Full(status) => status.code(),
+            End::WriteFailed => 5,
             End::SinkFailed => 6,
             End::NoMemory => 7,
         }

@@ -1,4 +1,0 @@
-pub mod Steps
-pub mod OnePivot
-pub mod OneRow
-pub mod OneBox

@@ -1,6 +1,0 @@
-use Rattle.std.proofs.Common.{◌≡◌, ◌≤◌, ◌+◌}
-use Rattle.sk_krawczyk.specs.Box.{least_exponent}
-use Rattle.sk_distance.proofs.distance.radius_exponent.Given as goal
-
-abbrev pub invariant-loop-k : goal.invariant-loop-k
-invariant-loop-k g l = record { least : l.exponent ≡ least_exponent l.k l.need; small : l.exponent ≤ 4 + l.k }
