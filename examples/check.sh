@@ -132,6 +132,9 @@ same once twice "'make 1' made twice"
 "$program" report once >"$room/report"
 prints "$room/report" 0 regen once twice
 same once twice "'make 1' regenerated"
+says 'made 11 groups 3 certified 3 unknowns 52 retained 46 free 6' 0 make 11 once
+says 'made 90 groups 3 certified 3 unknowns 382 retained 376 free 6' 0 make 90 once
+rm -f once twice
 rm -f once twice
 for count in 0 91 01 ten; do
     says 'fault words' 1 make "$count" out
