@@ -1,5 +1,5 @@
--- Points, normals, distances and workplanes are the same trees over numbers that are alike where they are read.
-use Rattle.std.proofs.Common.{◌≡◌, ℕ, zero, suc, ◌+◌, ℤ, pos, Bool, true, false, List, [], ◌∷◌, Option, Some, None, refl, subst, unwrap_or}
+-- Points, normals, distances and workplanes are the same trees over outlines and numbers that are alike where they are read.
+use Rattle.std.proofs.Common.{◌≡◌, ℕ, zero, suc, ◌+◌, ℤ, pos, Bool, true, false, List, [], ◌∷◌, Option, Some, None, refl, ap, ◌∙◌, subst, unwrap_or}
 use Rattle.std.specs.Prelude.{◌==◌, ◌&&◌, if◌then◌else◌}
 use Rattle.std.specs.List.{All}
 use Rattle.std.proofs.lemmas.Bool.{eqb-true}
@@ -22,11 +22,12 @@ use Rattle.sk_geom.specs.Quaternions.{quaternion_axes, quaternion_product}
 use Rattle.sk_geom.specs.EntityTrees.{of_entity, whole_units, moved_point, turned_point, own_point, space_point, own_normal, space_normal, point_named, normal_named, frame, own_pair, point_in, drawn_point, point_tree, normal_tree, own_distance, distance_tree, projected, flat_tree}
 use Rattle.sk_system.specs.LookupLaws.{Reads, IsRead, FourRead, NumbersRead, NamesRead, AreAlike}
 
--- two lots of numbers for one group
+-- two outlines and two lots of numbers for one group
 pub record Pair (s : ℕ) : Type 0 where
   pub reads : Reads
   pub group : GroupId
   pub entities : List (Entity s)
+  pub others : List (Entity s)
   pub unknowns : List ParamId
   pub first : Numbers s
   pub second : Numbers s
@@ -35,7 +36,7 @@ abbrev pub one : {s : ℕ} → Pair s → Source s
 one x = record { entities = x.entities; params = x.first.params; acts = x.first.acts; unknowns = x.unknowns; group = x.group }
 
 abbrev pub other : {s : ℕ} → Pair s → Source s
-other x = record { entities = x.entities; params = x.second.params; acts = x.second.acts; unknowns = x.unknowns; group = x.group }
+other x = record { entities = x.others; params = x.second.params; acts = x.second.acts; unknowns = x.unknowns; group = x.group }
 
 abbrev pub NamesOf : {s : ℕ} → Reads → Entity s → Type 0
 NamesOf r e = IsRead r e.id → NamesRead r e
@@ -45,6 +46,7 @@ pub record IsAlike {s : ℕ} (x : Pair s) : Type 0 where
   pub vector : FourRead x.reads (item_of_group x.group.0 0)
   pub quaternion : FourRead x.reads (item_of_group x.group.0 3)
   pub names : All (NamesOf {s = s} x.reads) x.entities
+  pub there : (h : ℕ) → x.reads.entities h ≡ true → entity_at h x.entities ≡ entity_at h x.others
   pub alike : AreAlike x.reads x.unknowns x.first x.second
 
 -- ---- what a look-up finds is read, with all that it names
@@ -155,11 +157,11 @@ module _ {s : ℕ} (x : Pair s) (a : IsAlike x) where
 
   point_named-same : (e : EntityId) → IsRead r e → point_named (one x) e ≡ point_named (other x) e
   unfolding point_named
-  point_named-same e k = of-there r (three_numbers []) (space_point (one x)) (space_point (other x)) (entity_at e.0 x.entities) space_point-same (found e k)
+  point_named-same e k = of-there r (three_numbers []) (space_point (one x)) (space_point (other x)) (entity_at e.0 x.entities) space_point-same (found e k) ∙ ap (of_entity (three_numbers []) (space_point (other x))) (a.there e.0 k)
 
   normal_named-same : (e : EntityId) → IsRead r e → normal_named (one x) e ≡ normal_named (other x) e
   unfolding normal_named
-  normal_named-same e k = of-there r (four_numbers []) (space_normal (one x)) (space_normal (other x)) (entity_at e.0 x.entities) space_normal-same (found e k)
+  normal_named-same e k = of-there r (four_numbers []) (space_normal (one x)) (space_normal (other x)) (entity_at e.0 x.entities) space_normal-same (found e k) ∙ ap (of_entity (four_numbers []) (space_normal (other x))) (a.there e.0 k)
 
   pub frame-same : (w : Entity s) → EntityRead r w → frame (one x) w ≡ frame (other x) w
   unfolding frame
@@ -180,20 +182,30 @@ module _ {s : ℕ} (x : Pair s) (a : IsAlike x) where
   drawn-same e None h k = refl
   drawn-same e (Some w) h k = λ i. point_in (frame-same w k i) (pair-same e.numbers h.names.numbers i)
 
+  drawn-there : (e : Entity s) → EntityRead r e → drawn_point (one x) e (entity_at e.workplane.0 x.entities) ≡ drawn_point (other x) e (entity_at e.workplane.0 x.others)
+  drawn-there e h =
+      let k = h.names.workplane in
+      drawn-same e (entity_at e.workplane.0 x.entities) h (found e.workplane k) ∙ ap (drawn_point (other x) e) (a.there e.workplane.0 k)
+
   pub point-same : (e : Entity s) → EntityRead r e → point_tree (one x) e ≡ point_tree (other x) e
   unfolding point_tree
   point-same e h = λ i.
-      if e.group.0 == x.group.0 && e.kind == entity_kind.POINT_IN_WORKPLANE then drawn-same e (entity_at e.workplane.0 x.entities) h (found e.workplane h.names.workplane) i
+      if e.group.0 == x.group.0 && e.kind == entity_kind.POINT_IN_WORKPLANE then drawn-there e h i
       else space_point-same e h i
 
   drawn_normal-same : (w : Option (Entity s)) → IfRead r w → of_entity (four_numbers []) (λ w. normal_named (one x) w.normal) w ≡ of_entity (four_numbers []) (λ w. normal_named (other x) w.normal) w
   drawn_normal-same w k =
       of-there r (four_numbers []) (λ w. normal_named (one x) w.normal) (λ w. normal_named (other x) w.normal) w (λ w l. normal_named-same w.normal l.names.normal) k
 
+  drawn_normal-there : (e : Entity s) → EntityRead r e → of_entity (four_numbers []) (λ w. normal_named (one x) w.normal) (entity_at e.workplane.0 x.entities) ≡ of_entity (four_numbers []) (λ w. normal_named (other x) w.normal) (entity_at e.workplane.0 x.others)
+  drawn_normal-there e h =
+      let k = h.names.workplane in
+      drawn_normal-same (entity_at e.workplane.0 x.entities) (found e.workplane k) ∙ ap (of_entity (four_numbers []) (λ w. normal_named (other x) w.normal)) (a.there e.workplane.0 k)
+
   pub normal-same : (e : Entity s) → EntityRead r e → normal_tree (one x) e ≡ normal_tree (other x) e
   unfolding normal_tree
   normal-same e h = λ i.
-      if e.group.0 == x.group.0 && e.kind == entity_kind.NORMAL_IN_WORKPLANE then drawn_normal-same (entity_at e.workplane.0 x.entities) (found e.workplane h.names.workplane) i
+      if e.group.0 == x.group.0 && e.kind == entity_kind.NORMAL_IN_WORKPLANE then drawn_normal-there e h i
       else space_normal-same e h i
 
   own_distance-same : (n : Numbering s) → NumbersRead r n → own_distance (one x) n ≡ own_distance (other x) n

@@ -1,7 +1,8 @@
--- The parts of a constraint are the same trees over numbers that are alike where they are read.
-use Rattle.std.proofs.Common.{◌≡◌, ℕ, Bool, true, false, List, [], ◌∷◌, ◌++◌, map, Option, Some, None, refl}
+-- The parts of a constraint are the same trees over outlines and numbers that are alike where they are read.
+use Rattle.std.proofs.Common.{◌≡◌, ℕ, Bool, true, false, List, [], ◌∷◌, ◌++◌, map, Option, Some, None, refl, ap, ◌∙◌, subst}
 use Rattle.std.specs.Prelude.{◌==◌, not, option_map, option_to_list, if◌then◌else◌}
 use Rattle.std.specs.List.{All, filter}
+use Rattle.std.proofs.lemmas.Bool.{eqb-true}
 use Rattle.std.proofs.lemmas.List.Elements.{All-nil, All-cons, All-head, All-tail, All-append, All-filter, All-map}
 use Rattle.sk_types.specs.declared.handle.EntityId.{EntityId}
 use Rattle.sk_types.specs.declared.constraint.Constraint.{Constraint}
@@ -13,13 +14,16 @@ use Rattle.sk_types.specs.declared.entity_kind.TheConstants as entity_kind
 use Rattle.sk_types.specs.declared.constraint_kind.TheConstants as kind
 use Rattle.sk_types.specs.Lists.{is_among}
 use Rattle.sk_types.specs.Needs.{named, part_takes, needs_of, two_points, one_point, one_of, two_of, four_of, curve_and_line, midpoint_parts, level_parts}
-use Rattle.sk_types.specs.Sizes.{has_entity}
-use Rattle.sk_geom.specs.Sources.{three_numbers, four_numbers}
+use Rattle.sk_types.specs.Kinds.{is_normal}
+use Rattle.sk_types.specs.Sizes.{has_entity, is_arc}
+use Rattle.sk_expr.specs.Parts.{LinePoints}
+use Rattle.sk_geom.specs.Sources.{Source, three_numbers, four_numbers}
 use Rattle.sk_geom.specs.Quaternions.{quaternion_axes}
-use Rattle.sk_geom.specs.EntityTrees.{point_tree, normal_tree}
-use Rattle.sk_system.specs.ByHandle.{entity_by, point_by, both_there, flat_by, frame_or_none, frame_by, axes_by, distance_or_none, distance_by, points_of, normal_of, distance_of, end_by, is_normal_by, is_arc_by, drawn_in, normal_plane}
-use Rattle.sk_system.specs.ConstraintParts.{needed, workplane_of, points_plane, round_plane, flat_points, space_points, line_by, arc_ends, two_axes, axes_unless, round_by, constraint_parts}
-use Rattle.sk_system.specs.LookupLaws.{Reads, IsRead, PartsRead}
+use Rattle.sk_geom.specs.EntityTrees.{of_entity, point_tree, normal_tree}
+use Rattle.sk_system.specs.ByHandle.{entity_by, point_by, both_there, flat_by, frame_or_none, frame_by, axes_by, distance_or_none, distance_by, points_of, normal_of, distance_of, end_by, is_of, is_normal_by, is_arc_by, drawn_in, normal_plane}
+use Rattle.sk_system.specs.ConstraintParts.{needed, workplane_of, points_plane, round_plane, flat_points, space_points, line_by, arc_ends, radius_by, two_axes, axes_unless, round_by, constraint_parts}
+use Rattle.sk_system.specs.LookupLaws.{Reads, IsRead}
+use Rattle.sk_system.specs.OutlineLaws.{NeededRead, SameNormal}
 use Rattle.sk_system.proofs.AlikeEntities.{Pair, one, other, IsAlike, IfRead, of-there, found, in_place, point-same, normal-same, distance-same, flat-same, frame-same}
 
 -- ---- lists
@@ -27,6 +31,19 @@ use Rattle.sk_system.proofs.AlikeEntities.{Pair, one, other, IsAlike, IfRead, of
 pub mapped : {A B : Type 0} (R : A → Type 0) (f g : A → B) (xs : List A) → ((x : A) → R x → f x ≡ g x) → All R xs → map f xs ≡ map g xs
 mapped R f g [] h k = refl
 mapped R f g (x ∷ xs) h k = let rest = mapped R f g xs h (All-tail R x xs k) in λ i. h x (All-head R x xs k) i ∷ rest i
+
+filtered : {A : Type 0} (R : A → Type 0) (p q : A → Bool) (xs : List A) → ((x : A) → R x → p x ≡ q x) → All R xs → filter p xs ≡ filter q xs
+filtered R p q [] h k = refl
+filtered R p q (x ∷ xs) h k = let rest = filtered R p q xs h (All-tail R x xs k) in λ i. if h x (All-head R x xs k) i then x ∷ rest i else rest i
+
+-- one of two, each the same where it is the one
+pub branch : {A : Type 0} (t : Bool) (a b c d : A) → (t ≡ true → a ≡ c) → (t ≡ false → b ≡ d) → (if t then a else b) ≡ (if t then c else d)
+branch true a b c d h k = h refl
+branch false a b c d h k = k refl
+
+chosen : {A : Type 0} (P : A → Type 0) (t : Bool) (x y : A) → (t ≡ true → P x) → P y → P (if t then x else y)
+chosen P true x y h k = h refl
+chosen P false x y h k = k
 
 either : {A : Type 0} (P : A → Type 0) (t : Bool) (x y : A) → P x → P y → P (if t then x else y)
 either P true x y h k = h
@@ -74,7 +91,7 @@ module _ (r : Reads) (z : (ps : List EntityId) (i : ℕ) → All (IsRead r) ps �
   read-level : NeedsRead r (level_parts ps es)
   read-level = either (NeedsRead r) ((named es 0).0 == 0) _ _ (read-points [] no-need) (read-entity Line)
 
-  needs-read : (k : ℕ) → NeedsRead r (needs_of k ps es)
+  pub needs-read : (k : ℕ) → NeedsRead r (needs_of k ps es)
   unfolding needs_of
   needs-read k =
       either (NeedsRead r) (is_among k (kind.POINTS_COINCIDENT ∷ kind.POINT_POINT_DISTANCE ∷ kind.SYMMETRIC_HORIZONTAL ∷ kind.SYMMETRIC_VERTICAL ∷ [])) _ _ (read-points [] no-need)
@@ -106,9 +123,12 @@ module _ {s : ℕ} (x : Pair s) (a : IsAlike x) where
 
   -- ---- by handle
 
+  pub at : (e : EntityId) → IsRead r e → entity_by (one x) e ≡ entity_by (other x) e
+  at e k = a.there e.0 k
+
   pub point_by-same : (e : EntityId) → IsRead r e → point_by (one x) e ≡ point_by (other x) e
   unfolding point_by
-  point_by-same e k = of-there r (three_numbers []) (point_tree (one x)) (point_tree (other x)) (entity_by (one x) e) (point-same x a) (found x a e k)
+  point_by-same e k = of-there r (three_numbers []) (point_tree (one x)) (point_tree (other x)) (entity_by (one x) e) (point-same x a) (found x a e k) ∙ ap (of_entity (three_numbers []) (point_tree (other x))) (at e k)
 
   both-same : (w e : Option (Entity s)) → IfRead r w → IfRead r e → both_there (one x) w e ≡ both_there (other x) w e
   both-same None e h k = refl
@@ -117,7 +137,7 @@ module _ {s : ℕ} (x : Pair s) (a : IsAlike x) where
 
   pub flat_by-same : (w e : EntityId) → IsRead r w → IsRead r e → flat_by (one x) w e ≡ flat_by (other x) w e
   unfolding flat_by
-  flat_by-same w e h k = both-same (entity_by (one x) w) (entity_by (one x) e) (found x a w h) (found x a e k)
+  flat_by-same w e h k = both-same (entity_by (one x) w) (entity_by (one x) e) (found x a w h) (found x a e k) ∙ (λ i. both_there (other x) (at w h i) (at e k i))
 
   plane-same : (w : Option (Entity s)) → IfRead r w → frame_or_none (one x) w ≡ frame_or_none (other x) w
   plane-same None h = refl
@@ -125,12 +145,12 @@ module _ {s : ℕ} (x : Pair s) (a : IsAlike x) where
 
   pub frame_by-same : (w : EntityId) → IsRead r w → frame_by (one x) w ≡ frame_by (other x) w
   unfolding frame_by
-  frame_by-same w k = plane-same (entity_by (one x) w) (found x a w k)
+  frame_by-same w k = plane-same (entity_by (one x) w) (found x a w k) ∙ ap (frame_or_none (other x)) (at w k)
 
   pub axes_by-same : (e : EntityId) → IsRead r e → axes_by (one x) e ≡ axes_by (other x) e
   unfolding axes_by
   axes_by-same e k =
-      let q = of-there r (four_numbers []) (normal_tree (one x)) (normal_tree (other x)) (entity_by (one x) e) (normal-same x a) (found x a e k) in
+      let q = of-there r (four_numbers []) (normal_tree (one x)) (normal_tree (other x)) (entity_by (one x) e) (normal-same x a) (found x a e k) ∙ ap (of_entity (four_numbers []) (normal_tree (other x))) (at e k) in
       λ i. quaternion_axes s (q i)
 
   far-same : (e : Option (Entity s)) → IfRead r e → distance_or_none (one x) e ≡ distance_or_none (other x) e
@@ -139,7 +159,7 @@ module _ {s : ℕ} (x : Pair s) (a : IsAlike x) where
 
   distance_by-same : (e : EntityId) → IsRead r e → distance_by (one x) e ≡ distance_by (other x) e
   unfolding distance_by
-  distance_by-same e k = far-same (entity_by (one x) e) (found x a e k)
+  distance_by-same e k = far-same (entity_by (one x) e) (found x a e k) ∙ ap (distance_or_none (other x)) (at e k)
 
   -- ---- what an entity names
 
@@ -152,6 +172,9 @@ module _ {s : ℕ} (x : Pair s) (a : IsAlike x) where
 
   end-read : (e : EntityId) (n : ℕ) → IsRead r e → IsRead r (end_by (one x) e n)
   end-read e n k = in_place x a (points_of (entity_by (one x) e)) n (names-read e k)
+
+  end-same : (e : EntityId) (n : ℕ) → IsRead r e → end_by (one x) e n ≡ end_by (other x) e n
+  end-same e n k = λ i. named (points_of (at e k i)) n
 
   normal-read : (e : Option (Entity s)) → IfRead r e → IsRead r (normal_of e)
   normal-read None k = a.nothing
@@ -174,6 +197,11 @@ module _ {s : ℕ} (x : Pair s) (a : IsAlike x) where
       let n = normal_of (entity_by (one x) e) in
       drawn-read (entity_by (one x) n) (found x a n (normal-read (entity_by (one x) e) (found x a e k)))
 
+  plane_of-same : (e : EntityId) → IsRead r e → normal_plane (one x) e ≡ normal_plane (other x) e
+  plane_of-same e k =
+      let n = normal_of (entity_by (one x) e) in
+      ap drawn_in (at n (normal-read (entity_by (one x) e) (found x a e k))) ∙ (λ i. drawn_in (entity_by (other x) (normal_of (at e k i))))
+
   -- ---- lists of points
 
   space-same : (es : List EntityId) → All (IsRead r) es → space_points (one x) es ≡ space_points (other x) es
@@ -188,16 +216,32 @@ module _ {s : ℕ} (x : Pair s) (a : IsAlike x) where
   two-read : (e : EntityId) (m n : ℕ) → IsRead r e → All (IsRead r) (end_by (one x) e m ∷ end_by (one x) e n ∷ [])
   two-read e m n k = All-cons (IsRead r) (end_by (one x) e m) (end_by (one x) e n ∷ []) (end-read e m k) (All-cons (IsRead r) (end_by (one x) e n) [] (end-read e n k) (All-nil (IsRead r)))
 
+  abbrev line_with : Source s → Option EntityId → List EntityId → LinePoints
+  line_with o w es = record { ends = space_points o es; flat = flat_points o w es }
+
+  line_with-same : (w : Option EntityId) (es : List EntityId) → NameRead w → All (IsRead r) es → line_with (one x) w es ≡ line_with (other x) w es
+  line_with-same w es h k =
+      let ends = space-same es k in
+      let flat = flats-same w es h k in
+      λ i. record { ends = ends i; flat = flat i }
+
   line-same : (w : Option EntityId) (e : EntityId) → NameRead w → IsRead r e → line_by (one x) w e ≡ line_by (other x) w e
   unfolding line_by
   line-same w e h k =
-      let es = end_by (one x) e 0 ∷ end_by (one x) e 1 ∷ [] in
-      let ends = space-same es (two-read e 0 1 k) in
-      let flat = flats-same w es h (two-read e 0 1 k) in
-      λ i. record { ends = ends i; flat = flat i }
+      line_with-same w (end_by (one x) e 0 ∷ end_by (one x) e 1 ∷ []) h (two-read e 0 1 k)
+      ∙ (λ i. line_with (other x) w (end-same e 0 k i ∷ end-same e 1 k i ∷ []))
 
   arc-read : (e : EntityId) → IsRead r e → All (IsRead r) (arc_ends (one x) e)
   arc-read e k = either (λ es. All (IsRead r) es) (is_arc_by (one x) e) (end_by (one x) e 1 ∷ end_by (one x) e 2 ∷ []) [] (two-read e 1 2 k) (All-nil (IsRead r))
+
+  arc_ends-same : (e : EntityId) → IsRead r e → arc_ends (one x) e ≡ arc_ends (other x) e
+  arc_ends-same e k = λ i. if is_arc (at e k i) then end-same e 1 k i ∷ end-same e 2 k i ∷ [] else []
+
+  radius-same : (e : EntityId) → IsRead r e → radius_by (one x) e ≡ radius_by (other x) e
+  radius-same e k =
+      let y = entity_by (one x) e in
+      let far = distance_by-same (distance_of y) (distance-read y (found x a e k)) in
+      (λ i. if is_arc_by (one x) e then None else Some (far i)) ∙ (λ i. if is_arc (at e k i) then None else Some (distance_by (other x) (distance_of (at e k i))))
 
   centre-same : (w : Option EntityId) (e : EntityId) → NameRead w → IsRead r e → option_map (λ p. flat_by (one x) p e) w ≡ option_map (λ p. flat_by (other x) p e) w
   centre-same None e h k = refl
@@ -212,66 +256,100 @@ module _ {s : ℕ} (x : Pair s) (a : IsAlike x) where
   round-same w e h k =
       let y = entity_by (one x) e in
       let there = found x a e k in
-      let centre = point_by-same (end_by (one x) e 0) (end-read e 0 k) in
-      let ends = space-same (arc_ends (one x) e) (arc-read e k) in
-      let middle = centre-same w (end_by (one x) e 0) h (end-read e 0 k) in
-      let flat = flats-same w (arc_ends (one x) e) h (arc-read e k) in
-      let far = distance_by-same (distance_of y) (distance-read y there) in
-      let axes = unless-same (normal_plane (one x) e) (normal_of y) (normal-read y there) in
+      let centre = point_by-same (end_by (one x) e 0) (end-read e 0 k) ∙ ap (point_by (other x)) (end-same e 0 k) in
+      let ends = space-same (arc_ends (one x) e) (arc-read e k) ∙ ap (space_points (other x)) (arc_ends-same e k) in
+      let middle = centre-same w (end_by (one x) e 0) h (end-read e 0 k) ∙ ap (λ (c : EntityId). option_map (λ p. flat_by (other x) p c) w) (end-same e 0 k) in
+      let flat = flats-same w (arc_ends (one x) e) h (arc-read e k) ∙ ap (flat_points (other x) w) (arc_ends-same e k) in
+      let far = radius-same e k in
+      let axes = unless-same (normal_plane (one x) e) (normal_of y) (normal-read y there) ∙ (λ i. axes_unless (other x) (plane_of-same e k i) (normal_of (at e k i))) in
       λ i. record {
         centre = centre i;
         ends = ends i;
         flat_centre = middle i;
         flat_ends = flat i;
-        distance = if is_arc_by (one x) e then None else Some (far i);
+        distance = far i;
         axes = axes i;
       }
 
   -- ---- all parts
 
-  module _ (c : Constraint s) (p : PartsRead r c) where
+  module _ (c : Constraint s) (p : NeededRead r c) where
+    -- what is needed by a kind
+    pub needed-by : (k : ℕ) → (c.kind == k) ≡ true → All (λ (n : Need). IsRead r n.entity) (needs_of k c.points c.entities)
+    needed-by k e = subst (λ (k : ℕ). All (λ (n : Need). IsRead r n.entity) (needs_of k c.points c.entities)) (eqb-true c.kind k e) p.needs
+
     needed-read : (k : ℕ) → All (IsRead r) (needed c k)
     unfolding needed
     needed-read k =
         let t = λ (n : Need). part_takes n.part k in
         let ns = needs_of c.kind c.points c.entities in
-        let all = needs-read r (in_place x a) c.points c.entities p.points p.entities c.kind in
-        All-map (IsRead r) (λ (n : Need). n.entity) (filter t ns) (All-filter t (λ (n : Need). IsRead r n.entity) ns all.all)
+        All-map (IsRead r) (λ (n : Need). n.entity) (filter t ns) (All-filter t (λ (n : Need). IsRead r n.entity) ns p.needs)
 
     workplane-read : NameRead (workplane_of c)
     workplane-read = either NameRead (has_entity c.workplane) (Some c.workplane) None p.workplane tt
 
+    abbrev Two : EntityId → PartKind → EntityId → PartKind → Type 0
+    Two d k e m = All (λ (n : Need). IsRead r n.entity) (record { entity = d; part = k } ∷ record { entity = e; part = m } ∷ [])
+
+    pub first-of : (d : EntityId) (k : PartKind) (e : EntityId) (m : PartKind) → Two d k e m → IsRead r d
+    first-of d k e m h = All-head (λ (n : Need). IsRead r n.entity) (record { entity = d; part = k }) (record { entity = e; part = m } ∷ []) h
+
+    pub second-of : (d : EntityId) (k : PartKind) (e : EntityId) (m : PartKind) → Two d k e m → IsRead r e
+    second-of d k e m h =
+        All-head (λ (n : Need). IsRead r n.entity) (record { entity = e; part = m }) [] (All-tail (λ (n : Need). IsRead r n.entity) (record { entity = d; part = k }) (record { entity = e; part = m } ∷ []) h)
+
+    circle-read : (c.kind == kind.POINT_ON_CIRCLE) ≡ true → IsRead r (named c.entities 0)
+    unfolding needs_of
+    circle-read e = second-of (named c.points 0) Point (named c.entities 0) CircleOrArc (needed-by kind.POINT_ON_CIRCLE e)
+
     points_plane-read : NameRead (points_plane (one x) c)
     points_plane-read =
-        either NameRead (c.kind == kind.POINT_ON_CIRCLE) (normal_plane (one x) (named c.entities 0)) (workplane_of c) (plane-read (named c.entities 0) (in_place x a c.entities 0 p.entities)) workplane-read
+        chosen NameRead (c.kind == kind.POINT_ON_CIRCLE) (normal_plane (one x) (named c.entities 0)) (workplane_of c) (λ e. plane-read (named c.entities 0) (circle-read e)) workplane-read
+
+    points_plane-same : points_plane (one x) c ≡ points_plane (other x) c
+    points_plane-same =
+        branch (c.kind == kind.POINT_ON_CIRCLE) (normal_plane (one x) (named c.entities 0)) (workplane_of c) (normal_plane (other x) (named c.entities 0)) (workplane_of c)
+        (λ e. plane_of-same (named c.entities 0) (circle-read e)) (λ e. refl)
 
     round_plane-read : (e : EntityId) → IsRead r e → NameRead (round_plane (one x) c e)
     round_plane-read e k = either NameRead (c.kind == kind.CURVE_CURVE_TANGENT) (workplane_of c) (normal_plane (one x) e) workplane-read (plane-read e k)
+
+    round_plane-same : (e : EntityId) → IsRead r e → round_plane (one x) c e ≡ round_plane (other x) c e
+    round_plane-same e k = λ i. if c.kind == kind.CURVE_CURVE_TANGENT then workplane_of c else plane_of-same e k i
 
     to-list-read : (w : Option EntityId) → NameRead w → All (IsRead r) (option_to_list w)
     to-list-read None k = All-nil (IsRead r)
     to-list-read (Some w) k = All-cons (IsRead r) w [] k (All-nil (IsRead r))
 
-    pub parts-same : constraint_parts (one x) c ≡ constraint_parts (other x) c
+    normal-is : (e : EntityId) → IsRead r e → is_normal_by (one x) e ≡ is_normal_by (other x) e
+    normal-is e k = λ i. is_of is_normal (at e k i)
+
+    pub parts-same : All (SameNormal x.entities x.others) c.entities → constraint_parts (one x) c ≡ constraint_parts (other x) c
     unfolding constraint_parts
-    parts-same =
+    parts-same marks =
         let ps = needed c entity_kind.POINT_IN_SPACE in
         let is_line = λ (e : EntityId). not (is_normal_by (one x) e) in
-        let ls = filter is_line (needed c entity_kind.LINE) in
+        let is_line2 = λ (e : EntityId). not (is_normal_by (other x) e) in
+        let all = needed c entity_kind.LINE in
+        let all-read = needed-read entity_kind.LINE in
+        let ls = filter is_line all in
         let ws = needed c entity_kind.WORKPLANE ++ option_to_list (workplane_of c) in
-        let ns = filter (is_normal_by (one x)) (needed c entity_kind.NORMAL_IN_SPACE) in
+        let ms = needed c entity_kind.NORMAL_IN_SPACE in
+        let ms-read = needed-read entity_kind.NORMAL_IN_SPACE in
+        let ns = filter (is_normal_by (one x)) ms in
         let rs = needed c entity_kind.ARC in
         let w = workplane-read in
         let points = space-same ps (needed-read entity_kind.POINT_IN_SPACE) in
-        let flats = flats-same (points_plane (one x) c) ps points_plane-read (needed-read entity_kind.POINT_IN_SPACE) in
-        let lines = mapped (IsRead r) (line_by (one x) (workplane_of c)) (line_by (other x) (workplane_of c)) ls (λ e k. line-same (workplane_of c) e w k)
-        (All-filter is_line (IsRead r) (needed c entity_kind.LINE) (needed-read entity_kind.LINE)) in
+        let flats = flats-same (points_plane (one x) c) ps points_plane-read (needed-read entity_kind.POINT_IN_SPACE) ∙ ap (λ (v : Option EntityId). flat_points (other x) v ps) points_plane-same in
+        let lines = mapped (IsRead r) (line_by (one x) (workplane_of c)) (line_by (other x) (workplane_of c)) ls (λ e k. line-same (workplane_of c) e w k) (All-filter is_line (IsRead r) all all-read)
+        ∙ ap (map (line_by (other x) (workplane_of c))) (filtered (IsRead r) is_line is_line2 all (λ e k i. not (normal-is e k i)) all-read) in
         let frames = mapped (IsRead r) (frame_by (one x)) (frame_by (other x)) ws frame_by-same
         (All-append (IsRead r) (needed c entity_kind.WORKPLANE) (option_to_list (workplane_of c)) (needed-read entity_kind.WORKPLANE) (to-list-read (workplane_of c) w)) in
-        let axes = mapped (IsRead r) (axes_by (one x)) (axes_by (other x)) ns axes_by-same
-        (All-filter (is_normal_by (one x)) (IsRead r) (needed c entity_kind.NORMAL_IN_SPACE) (needed-read entity_kind.NORMAL_IN_SPACE)) in
+        let axes = mapped (IsRead r) (axes_by (one x)) (axes_by (other x)) ns axes_by-same (All-filter (is_normal_by (one x)) (IsRead r) ms ms-read)
+        ∙ ap (map (axes_by (other x))) (filtered (IsRead r) (is_normal_by (one x)) (is_normal_by (other x)) ms normal-is ms-read) in
         let rounds = mapped (IsRead r) (λ e. round_by (one x) (round_plane (one x) c e) e) (λ e. round_by (other x) (round_plane (other x) c e) e) rs
-        (λ e k. round-same (round_plane (one x) c e) e (round_plane-read e k) k) (needed-read entity_kind.ARC) in
+        (λ e k. round-same (round_plane (one x) c e) e (round_plane-read e k) k ∙ ap (λ (v : Option EntityId). round_by (other x) v e) (round_plane-same e k)) (needed-read entity_kind.ARC) in
+        let normals = mapped (SameNormal x.entities x.others) (is_normal_by (one x)) (is_normal_by (other x)) c.entities (λ e k. k) marks in
         λ i. record {
           points = points i;
           flat_points = flats i;
@@ -279,5 +357,5 @@ module _ {s : ℕ} (x : Pair s) (a : IsAlike x) where
           frames = frames i;
           axes = axes i;
           rounds = rounds i;
-          normals = map (is_normal_by (one x)) c.entities;
+          normals = normals i;
         }

@@ -14,3 +14,4 @@ pub mod FitProps
 pub mod Examples
 pub mod SizeLaws
 pub mod LookupLaws
+pub mod OutlineLaws

@@ -1,6 +1,7 @@
 // Laws of systems. The functions here do nothing when they run: each contract is a law.
 
 ghost use Rattle.sk_system.specs.LookupLaws.{LookupsLaw, SameLookupsLaw};
+ghost use Rattle.sk_system.specs.OutlineLaws.{OutlinesLaw};
 ghost use Rattle.sk_system.specs.SizeLaws.{SizesLaw};
 
 /// The system of a known group has as many unknowns and rows as the outline counts, at each point where it is.
@@ -18,4 +19,10 @@ pub fn lookups_law()
 /// So numbers that are the same at every handle give the same system.
 pub fn same_lookups_law()
     ensures { SameLookupsLaw }
+{}
+
+/// Two outlines that are alike where the group reads them, and numbers that are alike there, give the same system. What is read
+/// are the entities that the group, its entities and its constraints need, and those that these name in turn.
+pub fn outlines_law()
+    ensures { OutlinesLaw }
 {}
