@@ -16,15 +16,19 @@ use Rattle.sk_types.specs.Lists.{is_among}
 use Rattle.sk_types.specs.Needs.{named, part_takes, needs_of, two_points, one_point, one_of, two_of, four_of, curve_and_line, midpoint_parts, level_parts}
 use Rattle.sk_types.specs.Kinds.{is_normal}
 use Rattle.sk_types.specs.Sizes.{has_entity, is_arc}
-use Rattle.sk_expr.specs.Parts.{LinePoints}
+use Rattle.sk_expr.specs.Parts.{LinePoints, PartsOf}
 use Rattle.sk_geom.specs.Sources.{Source, three_numbers, four_numbers}
 use Rattle.sk_geom.specs.Quaternions.{quaternion_axes}
 use Rattle.sk_geom.specs.EntityTrees.{of_entity, point_tree, normal_tree}
 use Rattle.sk_system.specs.ByHandle.{entity_by, point_by, both_there, flat_by, frame_or_none, frame_by, axes_by, distance_or_none, distance_by, points_of, normal_of, distance_of, end_by, is_of, is_normal_by, is_arc_by, drawn_in, normal_plane}
 use Rattle.sk_system.specs.ConstraintParts.{needed, workplane_of, points_plane, round_plane, flat_points, space_points, line_by, arc_ends, radius_by, two_axes, axes_unless, round_by, constraint_parts}
 use Rattle.sk_system.specs.LookupLaws.{Reads, IsRead}
-use Rattle.sk_system.specs.OutlineLaws.{NeededRead, SameNormal}
+use Rattle.sk_system.specs.OutlineLaws.{NeededRead}
 use Rattle.sk_system.proofs.AlikeEntities.{Pair, one, other, IsAlike, IfRead, of-there, found, in_place, point-same, normal-same, distance-same, flat-same, frame-same}
+
+-- parts with other marks of which entities are normals
+abbrev pub marked : PartsOf → List Bool → PartsOf
+marked m ns = record { points = m.points; flat_points = m.flat_points; lines = m.lines; frames = m.frames; axes = m.axes; rounds = m.rounds; normals = ns }
 
 -- ---- lists
 
@@ -278,6 +282,10 @@ module _ {s : ℕ} (x : Pair s) (a : IsAlike x) where
     pub needed-by : (k : ℕ) → (c.kind == k) ≡ true → All (λ (n : Need). IsRead r n.entity) (needs_of k c.points c.entities)
     needed-by k e = subst (λ (k : ℕ). All (λ (n : Need). IsRead r n.entity) (needs_of k c.points c.entities)) (eqb-true c.kind k e) p.needs
 
+    -- what is needed in a place
+    pub place-read : (k : ℕ) → (c.kind == k) ≡ true → (j : ℕ) → IsRead r (named (map (λ (n : Need). n.entity) (needs_of k c.points c.entities)) j)
+    place-read k e j = in_place x a (map (λ (n : Need). n.entity) (needs_of k c.points c.entities)) j (All-map (IsRead r) (λ (n : Need). n.entity) (needs_of k c.points c.entities) (needed-by k e))
+
     needed-read : (k : ℕ) → All (IsRead r) (needed c k)
     unfolding needed
     needed-read k =
@@ -321,12 +329,13 @@ module _ {s : ℕ} (x : Pair s) (a : IsAlike x) where
     to-list-read None k = All-nil (IsRead r)
     to-list-read (Some w) k = All-cons (IsRead r) w [] k (All-nil (IsRead r))
 
-    normal-is : (e : EntityId) → IsRead r e → is_normal_by (one x) e ≡ is_normal_by (other x) e
+    pub normal-is : (e : EntityId) → IsRead r e → is_normal_by (one x) e ≡ is_normal_by (other x) e
     normal-is e k = λ i. is_of is_normal (at e k i)
 
-    pub parts-same : All (SameNormal x.entities x.others) c.entities → constraint_parts (one x) c ≡ constraint_parts (other x) c
+    -- but for the marks
+    pub parts-same : marked (constraint_parts (one x) c) (map (is_normal_by (other x)) c.entities) ≡ constraint_parts (other x) c
     unfolding constraint_parts
-    parts-same marks =
+    parts-same =
         let ps = needed c entity_kind.POINT_IN_SPACE in
         let is_line = λ (e : EntityId). not (is_normal_by (one x) e) in
         let is_line2 = λ (e : EntityId). not (is_normal_by (other x) e) in
@@ -349,7 +358,6 @@ module _ {s : ℕ} (x : Pair s) (a : IsAlike x) where
         ∙ ap (map (axes_by (other x))) (filtered (IsRead r) (is_normal_by (one x)) (is_normal_by (other x)) ms normal-is ms-read) in
         let rounds = mapped (IsRead r) (λ e. round_by (one x) (round_plane (one x) c e) e) (λ e. round_by (other x) (round_plane (other x) c e) e) rs
         (λ e k. round-same (round_plane (one x) c e) e (round_plane-read e k) k ∙ ap (λ (v : Option EntityId). round_by (other x) v e) (round_plane-same e k)) (needed-read entity_kind.ARC) in
-        let normals = mapped (SameNormal x.entities x.others) (is_normal_by (one x)) (is_normal_by (other x)) c.entities (λ e k. k) marks in
         λ i. record {
           points = points i;
           flat_points = flats i;
@@ -357,5 +365,5 @@ module _ {s : ℕ} (x : Pair s) (a : IsAlike x) where
           frames = frames i;
           axes = axes i;
           rounds = rounds i;
-          normals = normals i;
+          normals = map (is_normal_by (other x)) c.entities;
         }

@@ -1,5 +1,5 @@
 -- Outlines and numbers that are alike where they are read give the same system.
-use Rattle.std.proofs.Common.{◌≡◌, ℕ, ◌+◌, Bool, true, false, List, [], ◌∷◌, ◌++◌, length, Option, Some, None, inl, inr, refl, sym, ap, ◌∙◌}
+use Rattle.std.proofs.Common.{◌≡◌, ℕ, ◌+◌, Bool, true, false, List, [], ◌∷◌, ◌++◌, ◌<◌, length, map, Option, Some, None, inl, inr, refl, sym, ap, ◌∙◌, arith}
 use Rattle.std.specs.Prelude.{◌==◌, ◌&&◌, ◌||◌, ◌⊎◌, not, if◌then◌else◌}
 use Rattle.std.specs.List.{All, filter, flat_map}
 use Rattle.std.proofs.lemmas.Bool.{cases_Bool, eqb-true}
@@ -34,16 +34,17 @@ use Rattle.sk_eq_curves.specs.CurveRows.{curve_kinds, curve_formula}
 use Rattle.sk_face.specs.FaceRows.{flat, side, face_kinds, face_normal, face_formula}
 use Rattle.sk_cubic.specs.CubicRows.{Contact, spoke, tangent, with_line, of_curves, cubic_formula}
 use Rattle.sk_system.specs.declared.contacts.Chord.{Chord}
-use Rattle.sk_system.specs.ByHandle.{entity_by, point_by, points_of, is_of, is_cubic_by}
+use Rattle.sk_system.specs.ByHandle.{entity_by, point_by, points_of, is_of, is_cubic_by, is_normal_by}
 use Rattle.sk_system.specs.ConstraintParts.{constraint_parts}
 use Rattle.sk_system.specs.Contacts.{last_three, copied_normal, named_normal, own_face, face_of, face_or_none, face_by, tangent_chord, spoke_chord, line_chord, space_chord, flat_chord, curve_end, both_chords, contact_in, has_cubic}
 use Rattle.sk_system.specs.Formulas.{constraint_formula, formulas_from}
 use Rattle.sk_system.specs.OwnRows.{nought, read_numbers, own_numbers, unit_row, arc_row, arc_row_of, entity_row_trees, named_entity_rows, along, within, group_row_trees}
 use Rattle.sk_system.specs.GroupSystem.{own_constraints, entities_of, numbers_of, own_rows_of, group_system}
-use Rattle.sk_system.specs.OutlineLaws.{NeededRead, PlaneRead, SameNormal, OutlinesLaw}
+use Rattle.sk_system.specs.OutlineLaws.{NeededRead, PlaneRead, OutlinesLaw}
 use Rattle.sk_system.specs.LookupLaws.{Reads, IsRead, NumbersRead, PartsRead, HoldsReads, LookupsLaw, SameLookupsLaw}
 use Rattle.sk_system.proofs.AlikeEntities.{Pair, one, other, NamesOf, IsAlike, EntityRead, IfRead, named-read, found, in_place, vector-same, quaternion-same, act-same, point-same, normal-same, distance-same}
-use Rattle.sk_system.proofs.AlikeParts.{branch, needs-read, at, needed-by, first-of, second-of, point_by-same, flat_by-same, frame_by-same, axes_by-same, names-read, parts-same}
+use Rattle.sk_system.proofs.Unmarked.{SameAt, below-1, below-4, curve_unmarked, line_unmarked, point_unmarked, same-get, same-take}
+use Rattle.sk_system.proofs.AlikeParts.{branch, normal-is, place-read, needs-read, at, needed-by, first-of, second-of, point_by-same, flat_by-same, frame_by-same, axes_by-same, names-read, parts-same}
 
 module _ {s : ℕ} (x : Pair s) (a : IsAlike x) where
   abbrev r : Reads
@@ -221,35 +222,90 @@ module _ {s : ℕ} (x : Pair s) (a : IsAlike x) where
 
     -- ---- the formula
 
-    abbrev rest_with : Source s → ℕ → PartsOf → Formula
-    rest_with o n parts = if is_among c.kind curve_kinds then curve_formula s n c parts else formula [] []
+    abbrev rest_with : ℕ → PartsOf → Formula
+    rest_with n parts = if is_among c.kind curve_kinds then curve_formula s n c parts else formula [] []
 
-    formula-same : All (SameNormal x.entities x.others) c.entities → (n m : ℕ) → constraint_formula (one x) n m c ≡ constraint_formula (other x) n m c
+    -- ---- marks of lines and normals
+
+    abbrev u : PartsOf
+    u = constraint_parts (one x) c
+
+    abbrev marks : List Bool
+    marks = map (is_normal_by (other x)) c.entities
+
+    -- the first two, or all four, are needed
+    mark-at : (j : ℕ) → IsRead r (named c.entities j) → is_normal_by (other x) (named c.entities j) ≡ is_normal_by (one x) (named c.entities j)
+    mark-at j h = sym (normal-is x a c p (named c.entities j) h)
+
+    abbrev SameMark : ℕ → Type 0
+    SameMark j = is_normal_by (other x) (named c.entities j) ≡ is_normal_by (one x) (named c.entities j)
+
+    abbrev SameMarks : ℕ → Type 0
+    SameMarks j = SameAt u marks j
+
+    same-at : (j : ℕ) → ((i : ℕ) → i < j → SameMark i) → SameMark j → SameMarks j
+    unfolding constraint_parts
+    same-at j h k = (same-take (is_normal_by (other x)) (is_normal_by (one x)) j c.entities h, same-get (is_normal_by (other x)) (is_normal_by (one x)) j c.entities k)
+
+    at-0 : IsRead r (named c.entities 0) → SameMarks 0
+    at-0 h = same-at 0 (λ i l. absurd (omega (arith, l))) (mark-at 0 h)
+
+    at-1 : IsRead r (named c.entities 0) → IsRead r (named c.entities 1) → SameMarks 1
+    at-1 h k = same-at 1 (λ i l. below-1 SameMark i l (mark-at 0 h)) (mark-at 1 k)
+
+    four : (h : (j : ℕ) → j < 4 → IsRead r (named c.entities j)) → SameMarks 0 × SameMarks 1 × SameMarks 2 × SameMarks 3
+    four h =
+        let all : (j : ℕ) → j < 4 → SameMarks j = λ j l. same-at j (λ i k. mark-at i (h i (omega (arith, l, k)))) (mark-at j (h j l)) in
+        (all 0 (omega arith), all 1 (omega arith), all 2 (omega arith), all 3 (omega arith))
+
+    two : IsRead r (named c.entities 0) × IsRead r (named c.entities 1) → SameMarks 0 × SameMarks 1
+    two h = (at-0 h.0, at-1 h.0 h.1)
+
+    apart-marks : (c.kind == kind.PROJECTED_DISTANCE) ≡ true → SameMarks 0
+    unfolding needs_of
+    apart-marks e = at-0 (place-read x a c p kind.PROJECTED_DISTANCE e 2)
+
+    angles-marks : (c.kind == kind.EQUAL_ANGLES) ≡ true → SameMarks 0 × SameMarks 1 × SameMarks 2 × SameMarks 3
+    unfolding needs_of
+    angles-marks e =
+        four (below-4 (λ j. IsRead r (named c.entities j)) (place-read x a c p kind.EQUAL_ANGLES e 0) (place-read x a c p kind.EQUAL_ANGLES e 1) (place-read x a c p kind.EQUAL_ANGLES e 2) (place-read x a c p kind.EQUAL_ANGLES e 3))
+
+    angle-marks : (c.kind == kind.ANGLE) ≡ true → SameMarks 0 × SameMarks 1
+    unfolding needs_of
+    angle-marks e = two (place-read x a c p kind.ANGLE e 0, place-read x a c p kind.ANGLE e 1)
+
+    level-marks : (c.kind == kind.PARALLEL) ≡ true → SameMarks 0 × SameMarks 1
+    unfolding needs_of
+    level-marks e = two (place-read x a c p kind.PARALLEL e 0, place-read x a c p kind.PARALLEL e 1)
+
+    upright-marks : (c.kind == kind.PERPENDICULAR) ≡ true → SameMarks 0 × SameMarks 1
+    unfolding needs_of
+    upright-marks e = two (place-read x a c p kind.PERPENDICULAR e 0, place-read x a c p kind.PERPENDICULAR e 1)
+
+    formula-same : (n m : ℕ) → constraint_formula (one x) n m c ≡ constraint_formula (other x) n m c
     unfolding constraint_formula
-    formula-same marks n m =
-        let parts = parts-same x a c p marks in
-        let u = constraint_parts (one x) c in
+    formula-same n m =
+        let parts = parts-same x a c p in
         let v = constraint_parts (other x) c in
         let point = λ (h : PointAndFace). point_by-same x a (named c.points 0) h.0 in
         let face = λ (h : PointAndFace). face_by-same e0 h.1 in
         branch c.reference (formula [] []) _ (formula [] []) _ (λ e. refl) (λ e.
-        branch (is_among c.kind point_kinds) (point_formula s c u) _ (point_formula s c v) _ (λ e. ap (point_formula s c) parts) (λ e.
-        branch (is_among c.kind line_kinds) (line_formula s n m c u) _ (line_formula s n m c v) _ (λ e. ap (line_formula s n m c) parts) (λ e.
+        branch (is_among c.kind point_kinds) (point_formula s c u) _ (point_formula s c v) _ (λ e. sym (point_unmarked u marks s c) ∙ ap (point_formula s c) parts) (λ e.
+        branch (is_among c.kind line_kinds) (line_formula s n m c u) _ (line_formula s n m c v) _
+        (λ e. sym (line_unmarked u marks s n m c apart-marks angles-marks angle-marks level-marks upright-marks) ∙ ap (line_formula s n m c) parts) (λ e.
         branch (is_among c.kind face_kinds) (face_formula s n c (point_by (one x) (named c.points 0)) (face_by (one x) e0)) _ (face_formula s n c (point_by (other x) (named c.points 0)) (face_by (other x) e0)) _
         (λ e i. face_formula s n c (point (of-face e) i) (face (of-face e) i)) (λ e.
         branch (has_cubic (one x) c) (cubic_formula s c (contact_in (one x) c)) _ (cubic_formula s c (contact_in (other x) c)) _
-        (λ e. ap (cubic_formula s c) (contact-same (contact-both e).0 (contact-both e).1)) (λ e. ap (rest_with (one x) n) parts)
-        ∙ ap (λ (t : Bool). if t then cubic_formula s c (contact_in (other x) c) else rest_with (other x) n v) has_cubic-same))))
+        (λ e. ap (cubic_formula s c) (contact-same (contact-both e).0 (contact-both e).1))
+        (λ e. branch (is_among c.kind curve_kinds) (curve_formula s n c u) (formula [] []) (curve_formula s n c v) (formula [] []) (λ e. sym (curve_unmarked u marks s n c) ∙ ap (curve_formula s n c) parts) (λ e. refl))
+        ∙ ap (λ (t : Bool). if t then cubic_formula s c (contact_in (other x) c) else rest_with n v) has_cubic-same))))
 
-  abbrev SameMarks : Constraint s → Type 0
-  SameMarks c = All (SameNormal x.entities x.others) c.entities
-
-  formulas-same : (n m : ℕ) (cs : List (Constraint s)) → All (NeededRead {s = s} r) cs → All SameMarks cs → formulas_from (one x) n m cs ≡ formulas_from (other x) n m cs
-  formulas-same n m [] h k = refl
-  formulas-same n m (c ∷ cs) h k =
-      let p = formula-same c (All-head (NeededRead {s = s} r) c cs h) (All-head SameMarks c cs k) n m in
+  formulas-same : (n m : ℕ) (cs : List (Constraint s)) → All (NeededRead {s = s} r) cs → formulas_from (one x) n m cs ≡ formulas_from (other x) n m cs
+  formulas-same n m [] h = refl
+  formulas-same n m (c ∷ cs) h =
+      let p = formula-same c (All-head (NeededRead {s = s} r) c cs h) n m in
       let f = constraint_formula (other x) n m c in
-      let rest = formulas-same (n + length f.auxiliaries) (m + length f.cosines) cs (All-tail (NeededRead {s = s} r) c cs h) (All-tail SameMarks c cs k) in
+      let rest = formulas-same (n + length f.auxiliaries) (m + length f.cosines) cs (All-tail (NeededRead {s = s} r) c cs h) in
       let first : formulas_from (one x) n m (c ∷ cs) ≡ record { constraint = c.id; formula = f } ∷ formulas_from (one x) (n + length f.auxiliaries) (m + length f.cosines) cs =
       λ i. record { constraint = c.id; formula = p i } ∷ formulas_from (one x) (n + length (p i).auxiliaries) (m + length (p i).cosines) cs in
       first ∙ (λ i. record { constraint = c.id; formula = f } ∷ rest i)
@@ -374,7 +430,7 @@ outlines_law s r g es cs fs ds n m h a k =
     let read = both-read r es (λ e. e.group.0 == g.id.0) h.own h.names in
     let ns = numbers-same x like read a.own in
     let rs = rows-same x like g read a.own h.workplane in
-    let forms = formulas-same x like (length us) 0 (own_constraints g cs) h.constraints a.normals ∙ ap (formulas_from (other x) (length us) 0) a.constraints in
+    let forms = formulas-same x like (length us) 0 (own_constraints g cs) h.constraints ∙ ap (formulas_from (other x) (length us) 0) a.constraints in
     let first : group_system g es cs n ≡ record { unknowns = us; numbers = numbers_of (other x); rows = own_rows_of (other x) g; formulas = formulas_from (other x) (length us) 0 (own_constraints g ds) } = λ i. record { unknowns = us; numbers = ns i; rows = rs i; formulas = forms i } in
     first ∙ (λ i.
     let vs = unknown-same g es cs fs ds a.own a.constraints i in
@@ -392,9 +448,6 @@ plane-read r Linked w h = tt
 needed : {s : ℕ} (r : Reads) → r.entities 0 ≡ true → (c : Constraint s) → PartsRead r c → NeededRead r c
 needed r z c p = record { needs = (needs-read r (named-read r z) c.points c.entities p.points p.entities c.kind).all; workplane = p.workplane }
 
-same-marks : {s : ℕ} (es : List (Entity s)) (ns : List EntityId) → All (SameNormal es es) ns
-same-marks es ns = λ k d l. refl
-
 pub lookups_law : LookupsLaw
 lookups_law s r g es cs n m h k =
     outlines_law s r g es cs es cs n m
@@ -407,7 +460,7 @@ lookups_law s r g es cs n m h k =
       constraints = All-weaker (PartsRead {s = s} r) (NeededRead {s = s} r) (needed r h.nothing) (own_constraints g cs) h.constraints;
       names = h.names;
     })
-    (record { own = refl; constraints = refl; there = λ h e. refl; normals = λ k d l. same-marks es _ }) k
+    (record { own = refl; constraints = refl; there = λ h e. refl }) k
 
 -- ---- all that there is
 

@@ -16,4 +16,5 @@ pub mod Made
 pub mod SizesAt
 pub mod AlikeEntities
 pub mod AlikeParts
+pub mod Unmarked
 pub mod AlikeSystems

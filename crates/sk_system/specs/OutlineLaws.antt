@@ -10,11 +10,9 @@ use Rattle.sk_types.specs.declared.group.Group.{Group}
 use Rattle.sk_types.specs.declared.group.GroupKind.{GroupKind}
 use Rattle.sk_types.specs.declared.group.GroupKind.TheVariants.{Space, Plane, Extrude, Translate, Linked}
 use Rattle.sk_types.specs.Handles.{item_of_group}
-use Rattle.sk_types.specs.Kinds.{is_normal}
 use Rattle.sk_types.specs.Lookups.{entity_at}
 use Rattle.sk_types.specs.Needs.{needs_of}
 use Rattle.sk_types.specs.Params.{unknown_params}
-use Rattle.sk_system.specs.ByHandle.{is_of}
 use Rattle.sk_system.specs.GroupSystem.{own_constraints, group_system}
 use Rattle.sk_system.specs.LookupLaws.{Reads, IsRead, FourRead, NamesRead, AreAlike}
 
@@ -42,17 +40,11 @@ pub record HoldsNeeds {s : ℕ} (r : Reads) (g : Group s) (es : List (Entity s))
   pub constraints : All (NeededRead {s = s} r) (own_constraints g cs)
   pub names : All (λ (e : Entity s). IsRead r e.id → NamesRead r e) es
 
--- whether an entity is a normal is the same in both outlines
-abbrev pub SameNormal : {s : ℕ} → List (Entity s) → List (Entity s) → EntityId → Type 0
-SameNormal es fs e = is_of is_normal (entity_at e.0 es) ≡ is_of is_normal (entity_at e.0 fs)
-
--- Two outlines, with constraints: the group has the same entities and constraints, and each entity that is read is the same. Of what
--- a constraint names and doesn't need, it is the same whether it is a normal.
+-- Two outlines, with constraints: the group has the same entities and constraints, and each entity that is read is the same.
 pub record SameReads {s : ℕ} (r : Reads) (g : Group s) (es : List (Entity s)) (cs : List (Constraint s)) (fs : List (Entity s)) (ds : List (Constraint s)) : Type 0 where
   pub own : filter (λ e. e.group.0 == g.id.0) es ≡ filter (λ e. e.group.0 == g.id.0) fs
   pub constraints : own_constraints g cs ≡ own_constraints g ds
   pub there : (h : ℕ) → r.entities h ≡ true → entity_at h es ≡ entity_at h fs
-  pub normals : All (λ (c : Constraint s). All (SameNormal es fs) c.entities) (own_constraints g cs)
 
 -- the same unknowns, and from numbers that are alike where they are read the same system
 abbrev pub OutlinesLaw : Type 0
