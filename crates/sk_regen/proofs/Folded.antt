@@ -18,7 +18,7 @@ use Rattle.sk_types.specs.Lookups.{value_of}
 use Rattle.sk_solve.specs.declared.report.Listed.{Listed}
 use Rattle.sk_regen.specs.Works.{Works}
 use Rattle.sk_regen.specs.Regeneration.{started_at, started, point_of, fixed_of, placed, unless_bad, unknowns, visit, names, found, Left, left_at, member, came_out, left_by, State, joined, taken, folded, at_references, regenerated, is_listed, left_over, regenerated_over}
-use Rattle.sk_regen.specs.FoldLaws.{AllStored, Each, FoldAgainLaw, StandsAs, OverLaw, Owners, AgreeOutside, SameStored, SameGroup, OwnParams, OwnActs, LeavesOwn, SameOutside, DirtyLaw}
+use Rattle.sk_regen.specs.FoldLaws.{AllStored, Each, FoldAgainLaw, StandsAs, OverLaw, Owners, AgreeOutside, SameStored, SameStarts, SameGroup, OwnParams, OwnActs, LeavesOwn, SameOutside, DirtyLaw}
 use Rattle.sk_regen.proofs.Among.{funext}
 use Rattle.sk_regen.proofs.Placed.{id_of, ids_placed, fixed_placed, point_placed, placed_twice}
 use Rattle.sk_regen.proofs.Joined.{NoParam, NoAct, value_alike, act_alike, value_other, act_other}
@@ -134,14 +134,14 @@ module _ (s : ℕ) (own : Owners) (dirty : List GroupId) where
 
 -- a group that depends on nothing that differs comes out the same
 module _ (s : ℕ) (w v : Works s) (before now : List (ParamValue s)) (n m : Numbers s) (g : GroupId) (same : SameGroup w v before now n m g) where
-  starts_same : (ids : List ParamId) → SameStored before now ids → map (started_at v now m g) ids ≡ map (started_at w before n g) ids
-  starts_same [] e = refl
-  starts_same (p ∷ ps) e =
-      ap (λ (z : ℤ). record { id = p; value = z } ∷ map (started_at v now m g) ps) (ap (λ (o : Option ℤ). unwrap_or o (v.start m g p)) e.0 ∙ ap (λ (z : ℤ). unwrap_or (value_of p.0 before) z) (same.start p))
-      ∙ ap (λ l. started_at w before n g p ∷ l) (starts_same ps e.1)
+  starts_same : (ids : List ParamId) → SameStored before now ids → SameStarts (w.start n g) (v.start m g) ids → map (started_at v now m g) ids ≡ map (started_at w before n g) ids
+  starts_same [] e f = refl
+  starts_same (p ∷ ps) e f =
+      ap (λ (z : ℤ). record { id = p; value = z } ∷ map (started_at v now m g) ps) (ap (λ (o : Option ℤ). unwrap_or o (v.start m g p)) e.0 ∙ ap (λ (z : ℤ). unwrap_or (value_of p.0 before) z) f.0)
+      ∙ ap (λ l. started_at w before n g p ∷ l) (starts_same ps e.1 f.1)
 
   pub started_same : started v now m g ≡ started w before n g
-  started_same = ap (map (started_at v now m g)) same.own ∙ starts_same (w.own g) same.stored
+  started_same = ap (map (started_at v now m g)) same.own ∙ starts_same (w.own g) same.stored same.start
 
   unknown_same : v.is_unknown g ≡ w.is_unknown g
   unknown_same = funext (v.is_unknown g) (w.is_unknown g) same.unknown

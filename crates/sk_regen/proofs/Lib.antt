@@ -28,3 +28,14 @@ pub mod Grounds
 pub mod Found
 pub mod Leaving
 pub mod Foldings
+pub mod Outside
+pub mod AlikeNumbers
+pub mod AlikeGroups
+pub mod AlikeWorks
+pub mod TypedGroups
+pub mod ClosedNeeds
+pub mod FirstGroup
+pub mod NamesDrawn
+pub mod NamesCopied
+pub mod NamesMade
+pub mod AlikeTexts

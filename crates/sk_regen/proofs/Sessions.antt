@@ -1,6 +1,6 @@
 -- What a session holds.
 use Rattle.std.proofs.Common.{◌≡◌, inl, inr, ℕ, ◌+◌, List, [], ◌∷◌, ◌++◌, Bool, true, false, nat_eq, Ok, refl, sym, ap, ◌∙◌, subst}
-use Rattle.std.specs.Prelude.{◌==◌}
+use Rattle.std.specs.Prelude.{◌==◌, ℤ}
 use Rattle.std.proofs.lemmas.Bool.{cases_Bool, eq-eqb}
 use Rattle.std.proofs.lemmas.List.{append-nil}
 use Rattle.std.proofs.lemmas.List.Elements.{filter-append}
@@ -24,7 +24,7 @@ use Rattle.sk_chain.specs.Outlines.{Outlined}
 use Rattle.sk_solve.specs.declared.report.Listed.{Listed}
 use Rattle.sk_regen.specs.Works.{Works}
 use Rattle.sk_regen.specs.Regeneration.{Left, State, taken, started, found, left_by, is_listed, members_of, folded, at_references, regenerated, regenerated_over}
-use Rattle.sk_regen.specs.FoldLaws.{AllStored, Each, StandsAs, AgreeOutside, SameStored, SameGroup, UndoneLaw}
+use Rattle.sk_regen.specs.FoldLaws.{AllStored, Each, StandsAs, AgreeOutside, SameStored, SameStarts, SameGroup, UndoneLaw}
 use Rattle.sk_regen.specs.NewText.{Below, order_of, works_of, outcome, new_blocks, new_lists, regen}
 use Rattle.sk_regen.specs.NewTextLaws.{OwnsParams, IsSound, BlocksAgain, IsFixed, AllDiffer, SettledLaw, EditedLaw, FixedLaw}
 use Rattle.sk_regen.proofs.Placed.{ids_placed, flip}
@@ -174,12 +174,16 @@ undone_law s own w v before now dirty same = record {
     stored_back [] e = tt
     stored_back (p ∷ ps) e = (sym e.0, stored_back ps e.1)
 
+    starts_back : (f h : ParamId → ℤ) (ids : List ParamId) → SameStarts f h ids → SameStarts h f ids
+    starts_back f h [] e = tt
+    starts_back f h (p ∷ ps) e = (sym e.0, starts_back f h ps e.1)
+
     group_back : (n m : Numbers s) (g : GroupId) → SameGroup w v before now n m g → SameGroup v w now before m n g
     group_back n m g is = record {
       own = sym is.own;
       unknown = λ p. sym (is.unknown p);
       stored = subst (SameStored now before) (sym is.own) (stored_back (w.own g) is.stored);
-      start = λ p. sym (is.start p);
+      start = subst (SameStarts (v.start m g) (w.start n g)) (sym is.own) (starts_back (w.start n g) (v.start m g) (w.own g) is.start);
       frame = sym is.frame;
       seen = λ fixed x. sym (is.seen fixed x);
       acts = λ ps. sym (is.acts ps);

@@ -22,7 +22,7 @@ use Rattle.sk_regen.proofs.Folded.{over_law}
 listed_more : (h : GroupId) (gs : List GroupId) (g : GroupId) → is_listed gs g ≡ true → is_listed (h ∷ gs) g ≡ true
 listed_more h gs g e = elim (cases_Bool (nat_eq g.0 h.0)) [ inl t ↦ rw t refl | inr f ↦ rw f e ]
 
-self_listed : (gs : List GroupId) → AllByRecursion (λ (g : GroupId). is_listed gs g ≡ true) gs
+pub self_listed : (gs : List GroupId) → AllByRecursion (λ (g : GroupId). is_listed gs g ≡ true) gs
 self_listed [] = tt
 self_listed (g ∷ gs) =
     (rw (eq-eqb g.0 g.0 refl) refl, all_weaker (λ (h : GroupId). is_listed gs h ≡ true) (λ (h : GroupId). is_listed (g ∷ gs) h ≡ true) gs (λ h e. listed_more g gs h e) (self_listed gs))

@@ -38,7 +38,7 @@ use Rattle.sk_regen.proofs.SoundStarts.{starts_fit}
 -- ---- an outline doesn't look at parameters
 
 module _ {s : ℕ} (parts : List (Part s)) (l : Typed s) where
-  plain_outline : (below parts).outline_of l.groups l.requests l.constraints ≡ outlined parts l
+  pub plain_outline : (below parts).outline_of l.groups l.requests l.constraints ≡ outlined parts l
   unfolding below
   plain_outline = params_law s parts l []
 

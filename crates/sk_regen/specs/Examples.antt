@@ -26,6 +26,7 @@ use Rattle.sk_system.specs.GroupSystem.{group_system, acts_at}
 use Rattle.sk_system.specs.OwnRows.{own_numbers}
 use Rattle.sk_regen.specs.Regeneration.{point_of, fixed_of, placed}
 use Rattle.sk_regen.specs.GroupWorks.{start_of, frame_of, bad_frame_of, framed, acts_of, first_numbers, references}
+use Rattle.sk_regen.specs.Likeness.{owner, outside, group_reads}
 
 abbrev at : ℕ → EntityId
 at h = record { 0 = h }
@@ -175,3 +176,28 @@ unknown_values = refl
 
 pub fixed_values : fixed_of is_low (value 1 (pos 5) ∷ value 4 (pos 6) ∷ value 2 (pos 7) ∷ []) ≡ value 4 (pos 6) ∷ []
 fixed_values = refl
+
+-- ---- before and after an edit
+
+-- request 5 of group 2 goes, request 6 of group 3 comes, and request 8 goes from group 2 to group 3
+abbrev old_requests : List Request
+old_requests = request 4 200 2 0 ∷ request 5 200 2 0 ∷ request 8 200 2 0 ∷ []
+
+abbrev new_requests : List Request
+new_requests = request 4 200 2 0 ∷ request 6 200 3 0 ∷ request 8 200 3 0 ∷ []
+
+-- items 1 of requests 4 to 8 and of group 9, and the handle of nothing: request 7 is in neither model
+pub owned : map (λ h. (owner old_requests new_requests h).0) (262145 ∷ 327681 ∷ 393217 ∷ 458753 ∷ 524289 ∷ 2148073473 ∷ 0 ∷ []) ≡ 2 ∷ 2 ∷ 3 ∷ 0 ∷ 3 ∷ 9 ∷ 0 ∷ []
+owned = refl
+
+-- what isn't of group 3, in order
+pub outside_three : map (λ (r : Request). r.id.0) (outside (record { 0 = 3 } ∷ []) (λ (r : Request). r.group) new_requests) ≡ 4 ∷ []
+outside_three = refl
+
+abbrev reads : Group 36 → List ℕ
+reads g = map (λ (e : EntityId). e.0) (group_reads g)
+
+-- the workplane of an extrusion and of a translation, and of a drawing in a workplane the lines of its frame alone
+pub what_groups_read : map reads (group 4 Space false 7 8 ∷ group 4 Plane false 7 8 ∷ group 4 Plane true 7 8 ∷ group 4 Extrude false 7 8 ∷ group 4 Translate false 7 8 ∷ group 4 Linked false 7 8 ∷ []) ≡
+    [] ∷ [] ∷ (7 ∷ 8 ∷ []) ∷ (7 ∷ []) ∷ (7 ∷ []) ∷ [] ∷ []
+what_groups_read = refl

@@ -57,12 +57,17 @@ abbrev pub SameStored : {s : ℕ} → List (ParamValue s) → List (ParamValue s
 SameStored before now [] = Unit {0}
 SameStored before now (p ∷ ps) = (value_of p.0 now ≡ value_of p.0 before) × SameStored before now ps
 
+-- these parameters start at the same
+abbrev pub SameStarts : (ParamId → ℤ) → (ParamId → ℤ) → List ParamId → Type 0
+SameStarts before now [] = Unit {0}
+SameStarts before now (p ∷ ps) = (now p ≡ before p) × SameStarts before now ps
+
 -- What the result of a group depends on: all of it is the same in both models, over the numbers n and m.
 pub record SameGroup {s : ℕ} (w v : Works s) (before now : List (ParamValue s)) (n m : Numbers s) (g : GroupId) : Type 0 where
   pub own : v.own g ≡ w.own g
   pub unknown : (p : ParamId) → v.is_unknown g p ≡ w.is_unknown g p
   pub stored : SameStored before now (w.own g)
-  pub start : (p : ParamId) → v.start m g p ≡ w.start n g p
+  pub start : SameStarts (w.start n g) (v.start m g) (w.own g)
   pub frame : v.bad_frame m g ≡ w.bad_frame n g
   pub seen : (fixed : List (ParamValue s)) (x : List ℤ) → v.seen m g fixed x ≡ w.seen n g fixed x
   pub acts : (ps : List (ParamValue s)) → v.acts m g ps ≡ w.acts n g ps

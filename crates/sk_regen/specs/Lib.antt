@@ -8,4 +8,5 @@ pub mod GroupWorks
 pub mod Ground
 pub mod Below
 pub mod SoundLaws
+pub mod Likeness
 pub mod Examples

@@ -3,6 +3,7 @@
 
 ghost use Rattle.sk_regen.specs.CertifiedLaws.{ComesOutLaw};
 ghost use Rattle.sk_regen.specs.FoldLaws.{FoldAgainLaw, OverLaw, DirtyLaw, UndoneLaw};
+ghost use Rattle.sk_regen.specs.Likeness.{LikenessLaw};
 ghost use Rattle.sk_regen.specs.SoundLaws.{FullLaw, ReadLaw, SoundLaw, RegenLaw, ModelLaw, SessionLaw};
 
 mod blank;
@@ -74,4 +75,9 @@ pub fn law_model()
 /// What a session holds between its calls.
 pub fn law_session()
     ensures { SessionLaw }
+{}
+
+/// Models that are alike outside a list give each group outside it the same result.
+pub fn law_likeness()
+    ensures { LikenessLaw }
 {}
