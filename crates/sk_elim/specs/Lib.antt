@@ -1,6 +1,7 @@
 pub mod Elimination
 pub mod Rows
 pub mod Result
+pub mod Filled
 pub mod Slopes
 pub mod Faults
 pub mod Examples

@@ -1,11 +1,15 @@
 ghost use Rattle.std.specs.List.{All};
-ghost use Rattle.std.specs.Prelude.{◌≡◌, ◌≢◌, ℕ, ℤ, pos, ◌-ℤ◌, ◌^◌, ◌<◌, ◌≤◌, length, get_or, Some, None, MatchOption, unsigned_abs};
+ghost use Rattle.std.specs.Prelude.{◌≡◌, ◌≢◌, ℕ, ℤ, pos, ◌-ℤ◌, ◌^◌, ◌++◌, ◌∷◌, [], ◌<◌, ◌≤◌, length, get_or, slice_set, Some, None, MatchOption, MatchResult, if◌then◌else◌, unsigned_abs};
 ghost use Rattle.sk_num.specs.Limit.{IsInLimit, grid_of};
 ghost use Rattle.sk_num.specs.Scale.{IsScale};
 ghost use Rattle.sk_elim.specs.Elimination.{cell, cell_less, row_less, cleared, pivoted};
+ghost use Rattle.sk_elim.specs.Filled.{is_filled, filled_places, less_at};
 ghost use Rattle.sk_elim.specs.Rows.{IsRow};
+ghost use Rattle.sk_elim.specs.declared.fault.ElimFault.TheVariants.{NoMemory};
 
+use crate::fault::ElimFault;
 use sk_num::{Grid, Items, rdiv, rmul};
+use std::alloc::Global;
 
 fn minus<const S: u32>(a: Grid<S>, b: Grid<S>) -> i128
     ensures value { result ≡ a.entry -ℤ b.entry }
@@ -40,47 +44,80 @@ fn cell_less<const S: u32>(factor: Grid<S>, a: Grid<S>, p: Grid<S>) -> Option<Gr
     less(a, product)
 }
 
-/// Takes factor times p from the number at a place. Where p is 0 nothing is computed.
+fn keep_if(places: &mut Vec<usize>, place: usize, wanted: bool) -> Result<(), ElimFault>
+    ensures { MatchResult result (λ u. places.new.items ≡ places.old.items ++ (if wanted then place ∷ [] else [])) (λ e. e ≡ NoMemory) }
+{
+    if wanted {
+        if places.push(place).is_err() {
+            return Err(ElimFault::NoMemory);
+        }
+    }
+    Ok(())
+}
+
+/// Whether a number isn't 0.
+fn is_filled<const S: u32>(number: Grid<S>) -> bool
+    ensures { result ≡ is_filled number.entry }
+{
+    number.units() != 0
+}
+
+/// The places of a row where it isn't 0, in order.
+pub(crate) fn filled_places<const S: u32>(
+    alloc: Global,
+    row: &[Grid<S>],
+) -> Result<Vec<usize>, ElimFault>
+    ensures { MatchResult result (λ v. v.items ≡ filled_places row.now) (λ e. e ≡ NoMemory) }
+{
+    let mut places = Vec::new(alloc);
+    for place in 0..row.len() {
+        match keep_if(&mut places, place, is_filled(at(row, place))) {
+            Err(e) => return Err(e),
+            Ok(()) => (),
+        }
+    }
+    Ok(places)
+}
+
+/// Takes factor times p from the number at a place.
 fn lessen<const S: u32>(
     row: &mut Items<Grid<S>>,
-    k: usize,
+    place: usize,
     factor: Grid<S>,
     p: Grid<S>,
 ) -> Option<()>
     requires scale { IsScale S }
-    requires inside { k < length row.old }
+    requires inside { place < length row.old }
     requires within { (j : ℕ) → IsInLimit (cell row.old j) }
     ensures same_size { length row.new ≡ length row.old }
     ensures within { (j : ℕ) → IsInLimit (cell row.new j) }
     ensures value { MatchOption result
-        (cell_less S factor.entry (cell row.old k) p.entry ≡ None)
-        (λ u. cell_less S factor.entry (cell row.old k) p.entry ≡ Some (cell row.new k)) }
-    ensures others { (j : ℕ) → j ≢ k → cell row.new j ≡ cell row.old j }
+        (cell_less S factor.entry (cell row.old place) p.entry ≡ None)
+        (λ u. (y : ℤ) × (cell_less S factor.entry (cell row.old place) p.entry ≡ Some y) × (row.new ≡ slice_set row.old place y)) }
 {
-    if p == Grid::zero() {
-        return Some(());
-    }
-    let Some(number) = cell_less(factor, at(row.as_slice(), k), p) else {
+    let Some(number) = cell_less(factor, at(row.as_slice(), place), p) else {
         return None;
     };
     let _ = number.units();
-    row.put(k, number);
+    row.put(place, number);
     Some(())
 }
 
-/// Takes factor times the pivot's row from a row.
-fn subtract<const S: u32>(
+/// Takes factor times the pivot's row from a row, at some places of it.
+fn lessen_at<const S: u32>(
     row: &mut Items<Grid<S>>,
     pivot: &[Grid<S>],
+    places: &[usize],
     factor: Grid<S>,
 ) -> Option<()>
     requires scale { IsScale S }
     requires row { IsRow (length pivot.now) row.old }
+    requires inside { All (λ k. k < length pivot.now) places.now }
     ensures row { IsRow (length pivot.now) row.new }
-    ensures value { MatchOption result (row_less S factor.entry row.old pivot.now ≡ None) (λ u. row_less S factor.entry row.old pivot.now ≡ Some row.new) }
+    ensures value { MatchOption result (less_at S factor.entry pivot.now places.now row.old ≡ None) (λ u. less_at S factor.entry pivot.now places.now row.old ≡ Some row.new) }
 {
-    for k in 0..pivot.len() {
-        match lessen(row, k, factor, at(pivot, k)) {
+    for i in 0..places.len() {
+        match lessen(row, places[i], factor, at(pivot, places[i])) {
             None => return None,
             Some(()) => (),
         }
@@ -88,10 +125,35 @@ fn subtract<const S: u32>(
     Some(())
 }
 
-/// Clears a row in the column by the pivot's row, which isn't 0 there. A row that is 0 there stays as it is.
-fn clear<const S: u32>(row: &mut Items<Grid<S>>, pivot: &[Grid<S>], column: usize) -> Option<()>
+/// Takes factor times the pivot's row from a row. Where that is 0 nothing is computed.
+fn subtract<const S: u32>(
+    row: &mut Items<Grid<S>>,
+    pivot: &[Grid<S>],
+    filled: &[usize],
+    factor: Grid<S>,
+) -> Option<()>
     requires scale { IsScale S }
     requires row { IsRow (length pivot.now) row.old }
+    requires filled { filled.now ≡ filled_places pivot.now }
+    ensures row { IsRow (length pivot.now) row.new }
+    ensures value { MatchOption result (row_less S factor.entry row.old pivot.now ≡ None) (λ u. row_less S factor.entry row.old pivot.now ≡ Some row.new) }
+{
+    match lessen_at(row, pivot, filled, factor) {
+        None => None,
+        Some(()) => Some(()),
+    }
+}
+
+/// Clears a row in the column by the pivot's row, which isn't 0 there. A row that is 0 there stays as it is.
+fn clear<const S: u32>(
+    row: &mut Items<Grid<S>>,
+    pivot: &[Grid<S>],
+    filled: &[usize],
+    column: usize,
+) -> Option<()>
+    requires scale { IsScale S }
+    requires row { IsRow (length pivot.now) row.old }
+    requires filled { filled.now ≡ filled_places pivot.now }
     requires column_in { column < length pivot.now }
     requires not_zero { cell pivot.now column ≢ pos 0 }
     ensures row { IsRow (length pivot.now) row.new }
@@ -102,7 +164,7 @@ fn clear<const S: u32>(row: &mut Items<Grid<S>>, pivot: &[Grid<S>], column: usiz
         return Some(());
     }
     let factor = rdiv(number, at(pivot, column))?;
-    subtract(row, pivot, factor)?;
+    subtract(row, pivot, filled, factor)?;
     row.put(column, Grid::zero());
     Some(())
 }
@@ -111,11 +173,13 @@ fn clear<const S: u32>(row: &mut Items<Grid<S>>, pivot: &[Grid<S>], column: usiz
 pub(crate) fn clear_others<const S: u32>(
     rows: &mut Vec<Items<Grid<S>>>,
     pivot: &[Grid<S>],
+    filled: &[usize],
     place: usize,
     column: usize,
 ) -> Option<()>
     requires scale { IsScale S }
     requires rows { All (IsRow (length pivot.now)) rows.old.items }
+    requires filled { filled.now ≡ filled_places pivot.now }
     requires column_in { column < length pivot.now }
     requires not_zero { cell pivot.now column ≢ pos 0 }
     ensures rows { All (IsRow (length pivot.now)) rows.new.items }
@@ -124,7 +188,7 @@ pub(crate) fn clear_others<const S: u32>(
 {
     for i in 0..rows.len() {
         if i != place {
-            match clear(&mut rows[i], pivot, column) {
+            match clear(&mut rows[i], pivot, filled, column) {
                 None => return None,
                 Some(()) => (),
             }

@@ -7,7 +7,7 @@ ghost use Rattle.sk_elim.specs.Faults.{HaltsAs, progress_of};
 
 use crate::fault::ElimFault;
 use crate::progress::{Pivot, Working, keep_pivot, keep_suspect};
-use crate::rows::{at, clear_others};
+use crate::rows::{at, clear_others, filled_places};
 use sk_num::{Grid, Items};
 use std::alloc::Global;
 
@@ -40,7 +40,11 @@ fn pivot_on<const S: u32>(
     let Ok(pivot) = rows[place].copy(alloc) else {
         return Err(ElimFault::NoMemory);
     };
-    match clear_others(rows, pivot.as_slice(), place, column) {
+    let filled = match filled_places(alloc, pivot.as_slice()) {
+        Err(e) => return Err(e),
+        Ok(filled) => filled,
+    };
+    match clear_others(rows, pivot.as_slice(), &filled, place, column) {
         None => Err(ElimFault::PastLimit),
         Some(()) => Ok(()),
     }
