@@ -13,6 +13,7 @@ pub mod Testable
 pub mod MadeWithin
 pub mod Counts
 pub mod Made
+pub mod Parting
 pub mod SizesAt
 pub mod AlikeEntities
 pub mod AlikeParts

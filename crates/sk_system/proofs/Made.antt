@@ -1,11 +1,10 @@
 -- The system of a known group fits.
-use Rattle.std.proofs.Common.{◌≡◌, ℕ, ◌+◌, ◌≤◌, ℤ, Bool, true, false, List, [], ◌∷◌, ◌++◌, length, Option, Some, None, refl, sym, ap, ◌∙◌, subst, arith, length-append}
-use Rattle.std.specs.Prelude.{◌==◌, ◌&&◌, not, if◌then◌else◌}
-use Rattle.std.specs.List.{All, sum_by, filter, flat_map}
+use Rattle.std.proofs.Common.{◌≡◌, ℕ, ◌+◌, ◌≤◌, ℤ, Bool, true, false, List, [], ◌∷◌, length, Option, Some, None, refl, sym, ap, ◌∙◌, subst, arith, length-append}
+use Rattle.std.specs.Prelude.{◌==◌, ◌&&◌, if◌then◌else◌}
+use Rattle.std.specs.List.{All, sum_by, flat_map}
 use Rattle.std.proofs.lemmas.Bool.{eqb-true}
 use Rattle.std.proofs.lemmas.List.Elements.{All-head, All-tail}
 use Rattle.std.proofs.lemmas.List.Sums.{sum_by-cons}
-use Rattle.std.proofs.lemmas.Map.Views.{any-filter_same}
 use Rattle.sk_types.specs.declared.handle.EntityId.{EntityId}
 use Rattle.sk_types.specs.declared.handle.ParamId.{ParamId}
 use Rattle.sk_types.specs.declared.constraint.Constraint.{Constraint}
@@ -22,7 +21,7 @@ use Rattle.sk_types.specs.Handles.{maker_of}
 use Rattle.sk_types.specs.Kinds.{is_normal}
 use Rattle.sk_types.specs.Lookups.{entity_at}
 use Rattle.sk_types.specs.Needs.{named, needs_of, part_takes}
-use Rattle.sk_types.specs.Params.{fixes, free_params, own_params, group_params, unknown_params}
+use Rattle.sk_types.specs.Params.{unknown_params}
 use Rattle.sk_types.specs.Sizes.{has_entity, is_by_request, sizes_in, entity_rows, rows_by, group_rows}
 use Rattle.sk_expr.specs.declared.row.RowKind.TheVariants.{OfEntity, OfGroup}
 use Rattle.sk_expr.specs.Poly.{Poly}
@@ -40,39 +39,6 @@ use Rattle.sk_system.specs.GroupSystem.{plain_system, numbers_of, own_constraint
 use Rattle.sk_system.proofs.Counts.{counted}
 use Rattle.sk_system.proofs.MadeWithin.{own-fit, AllNameLines, formulas-fit}
 use Rattle.sk_system.proofs.Visits.{named-length}
-
--- ---- the unknowns
-
-third : (a b c d : Bool) → (a && b && c && d) ≡ true → c ≡ true
-third true true true d e = refl
-third true true false d e = absurd cc
-third true false c d e = absurd cc
-third false b c d e = absurd cc
-
--- what fixes an entity is of its group
-of-group : {s : ℕ} (g : ℕ) (e : Entity s) (c : Constraint s) → (e.group.0 == g) ≡ true → fixes e c ≡ true → (c.group.0 == g) ≡ true
-of-group g e c h t =
-    subst (λ n. (c.group.0 == n) ≡ true) (eqb-true e.group.0 g h) (third (c.kind == kind.WHERE_DRAGGED) (not c.reference) (c.group.0 == e.group.0) ((named c.points 0).0 == e.id.0) t)
-
-free-same : {s : ℕ} (g : Group s) (cs : List (Constraint s)) (e : Entity s) → (e.group.0 == g.id.0) ≡ true → free_params (own_constraints g cs) e ≡ free_params cs e
-free-same {s} g cs e h =
-    ap (λ b. if b then [] else own_params e) (any-filter_same (fixes e) (λ (c : Constraint s). c.group.0 == g.id.0) true (λ c t. of-group g.id.0 e c h t) cs)
-
-one-free : {s : ℕ} (g : Group s) (cs : List (Constraint s)) (e : Entity s) (es : List (Entity s)) (b : Bool) → (e.group.0 == g.id.0) ≡ b →
-    flat_map (free_params (own_constraints g cs)) es ≡ flat_map (free_params cs) es →
-    flat_map (free_params (own_constraints g cs)) (if b then e ∷ es else es) ≡ flat_map (free_params cs) (if b then e ∷ es else es)
-one-free g cs e es false h k = k
-one-free g cs e es true h k =
-    ap (λ (ps : List ParamId). ps ++ flat_map (free_params (own_constraints g cs)) es) (free-same g cs e h) ∙ ap (λ (ps : List ParamId). free_params cs e ++ ps) k
-
-all-free : {s : ℕ} (g : Group s) (cs : List (Constraint s)) (es : List (Entity s)) →
-    flat_map (free_params (own_constraints g cs)) (filter (λ e. e.group.0 == g.id.0) es) ≡ flat_map (free_params cs) (filter (λ e. e.group.0 == g.id.0) es)
-all-free g cs [] = refl
-all-free {s} g cs (e ∷ es) = one-free g cs e (filter (λ (x : Entity s). x.group.0 == g.id.0) es) (e.group.0 == g.id.0) refl (all-free g cs es)
-
--- only constraints of the group fix what it solves
-pub own-unknowns : {s : ℕ} (g : Group s) (cs : List (Constraint s)) (es : List (Entity s)) → unknown_params (own_constraints g cs) es g ≡ unknown_params cs es g
-own-unknowns g cs es = ap (λ (ps : List ParamId). ps ++ group_params g) (all-free g cs es)
 
 -- ---- lines that constraints name
 

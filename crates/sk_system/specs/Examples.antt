@@ -27,6 +27,7 @@ use Rattle.sk_eq_points.specs.PointRows.{height_over, over_plane, in_plane, poin
 use Rattle.sk_eq_lines.specs.LineRows.{line_formula, in_angle, first_direction, direction_at, normals_before, is_normal_at}
 use Rattle.sk_eq_curves.specs.CurveRows.{radius_auxiliaries, radius_of, diameter, curve_formula}
 use Rattle.sk_system.specs.ByHandle.{point_by, frame_by, distance_by}
+use Rattle.sk_system.specs.Shares.{list_at, of_group}
 use Rattle.sk_system.specs.ConstraintParts.{needed, line_by, round_by, constraint_parts}
 use Rattle.sk_system.specs.Formulas.{constraint_formula}
 use Rattle.sk_system.specs.OwnRows.{own_numbers, unit_row, entity_row_trees, group_row_trees}
@@ -233,3 +234,13 @@ left : map (λ (a : Act 4). a.values) (acts_at (group_system (group Space 0) (be
     ≡ (pos 144 ∷ pos 0 ∷ pos 0 ∷ pos 0 ∷ []) ∷ []
 unfolding group_system acts_at own_numbers entity_row_trees group_row_trees constraint_formula point_tree space_point three_params param_tree span_value
 left = refl
+
+-- ---- what belongs to a group
+
+-- those of group 2, in their order
+parted : of_group (λ (x : ℕ). x) 2 (2 ∷ 3 ∷ 2 ∷ 1 ∷ []) ≡ 2 ∷ 2 ∷ []
+parted = refl
+
+-- a group without a list has nothing
+none-at : list_at {X = ℕ} ([] ∷ (5 ∷ []) ∷ []) 2 ≡ []
+none-at = refl

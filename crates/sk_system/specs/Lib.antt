@@ -3,6 +3,7 @@ pub mod ConstraintParts
 pub mod Contacts
 pub mod Formulas
 pub mod OwnRows
+pub mod Shares
 pub mod GroupSystem
 pub mod Views
 pub mod Sizes
@@ -12,6 +13,7 @@ pub mod Visited
 pub mod SystemViews
 pub mod FitProps
 pub mod Examples
+pub mod ShareLaws
 pub mod SizeLaws
 pub mod LookupLaws
 pub mod OutlineLaws

@@ -11,10 +11,12 @@ mod making;
 mod own;
 mod parts;
 mod rounds;
+mod shares;
 mod system;
 mod visit;
 
 pub use formulas::NamedFormula;
 pub use own::OwnNumbers;
+pub use shares::{Share, Shares};
 pub use std::alloc::AllocError as NoMemory;
 pub use system::System;

@@ -13,7 +13,8 @@ ghost use Rattle.sk_types.specs.Standings.{IsInTurn};
 ghost use Rattle.sk_system.specs.Formulas.{formulas_from};
 ghost use Rattle.sk_system.specs.Sizes.{auxiliaries_in, cosines_in};
 ghost use Rattle.sk_system.specs.Known.{IsKnown};
-ghost use Rattle.sk_system.specs.GroupSystem.{group_system, own_constraints, numbers_of, own_rows_of};
+ghost use Rattle.sk_system.specs.GroupSystem.{entities_of, group_system, own_constraints, numbers_of, own_rows_of};
+ghost use Rattle.sk_system.specs.Shares.{entity_group, of_group};
 ghost use Rattle.sk_system.specs.SystemViews.{system_of};
 ghost use Rattle.sk_system.specs.Views.{numbers_view, formula_view};
 ghost use Rattle.sk_system.specs.declared.formulas.NamedFormula.{NamedFormula as KeptFormula};
@@ -21,41 +22,26 @@ ghost use Rattle.sk_system.specs.declared.formulas.NamedFormula.{NamedFormula as
 use crate::NoMemory;
 use crate::formulas::{NamedFormula, formulas_of};
 use crate::own::{OwnNumbers, numbers_in, rows_in};
+use crate::shares::Share;
 use crate::system::System;
 use sk_expr::Row;
 use sk_geom::Source;
-use sk_types::{Constraint, Group, Numbers, Outline, ParamId, unknown_params};
+use sk_types::{Group, Numbers, Outline, ParamId, unknown_params};
 use std::alloc::Global;
-
-/// The constraints of a group, in the order of the file.
-fn constraints_in<const S: u32>(
-    alloc: Global,
-    group: &Group<S>,
-    constraints: &[Constraint<S>],
-) -> Result<Vec<Constraint<S>>, NoMemory>
-    ensures { IfOk result (λ v. v.items ≡ own_constraints group.now constraints.now) }
-{
-    let mut own = Vec::new(alloc);
-    for constraint in constraints {
-        if constraint.group.0 == group.id.0 {
-            own.push(*constraint)?;
-        }
-    }
-    Ok(own)
-}
 
 /// What the group's unknowns are: its parameters that no constraint fixes.
 fn unknowns_in<const S: u32>(
     alloc: Global,
     group: &Group<S>,
     outline: &Outline<S>,
-    own: &[Constraint<S>],
+    share: Share<'_, S>,
 ) -> Result<Vec<ParamId>, NoMemory>
     requires fit { OwnFit outline.now.entities }
     requires known { group.now.id.0 ≤ 32767 }
-    ensures { IfOk result (λ v. v.items ≡ unknown_params own.now outline.now.entities group.now) }
+    requires entities { share.entities.now ≡ of_group entity_group group.now.id.0 outline.now.entities }
+    ensures { IfOk result (λ v. v.items ≡ unknown_params share.entry.constraints.now outline.now.entities group.now) }
 {
-    let unknowns = unknown_params(alloc, own, outline.entities.as_slice(), group)?;
+    let unknowns = unknown_params(alloc, share.constraints, share.entities, group)?;
     Ok(unknowns)
 }
 
@@ -71,21 +57,22 @@ fn trees_of<const S: u32>(
     alloc: Global,
     source: &Source<'_, S>,
     group: &Group<S>,
-    own: &[Constraint<S>],
+    share: Share<'_, S>,
 ) -> Result<Trees<S>, NoMemory>
     requires scale { IsScale S }
     requires source { IsSource (source_of source.now) }
-    requires in_turn { All (IsInTurn {s = S}) own.now }
-    requires room { length source.now.unknowns.now + auxiliaries_in (formulas_from (source_of source.now) (length source.now.unknowns.now) 0 own.now) ≤ 60000 }
-    requires few_cosines { cosines_in (formulas_from (source_of source.now) (length source.now.unknowns.now) 0 own.now) ≤ 60000 }
+    requires entities { share.entities.now ≡ entities_of (source_of source.now) }
+    requires in_turn { All (IsInTurn {s = S}) share.constraints.now }
+    requires room { length source.now.unknowns.now + auxiliaries_in (formulas_from (source_of source.now) (length source.now.unknowns.now) 0 share.constraints.now) ≤ 60000 }
+    requires few_cosines { cosines_in (formulas_from (source_of source.now) (length source.now.unknowns.now) 0 share.constraints.now) ≤ 60000 }
     ensures numbers { IfOk result (λ t. map numbers_view t.numbers.items ≡ numbers_of (source_of source.now)) }
     ensures rows { IfOk result (λ t. map row_of t.rows.items ≡ own_rows_of (source_of source.now) group.now) }
-    ensures formulas { IfOk result (λ t. map formula_view t.formulas.items ≡ formulas_from (source_of source.now) (length source.now.unknowns.now) 0 own.now) }
+    ensures formulas { IfOk result (λ t. map formula_view t.formulas.items ≡ formulas_from (source_of source.now) (length source.now.unknowns.now) 0 share.entry.constraints.now) }
     ensures small { IfOk result (λ t. All (λ (f : KeptFormula S). IsSmall f.formula) t.formulas.items) }
 {
-    let numbers = numbers_in(alloc, source)?;
-    let rows = rows_in(alloc, source, group)?;
-    let formulas = formulas_of(alloc, source, own)?;
+    let numbers = numbers_in(alloc, source, share.entities)?;
+    let rows = rows_in(alloc, source, group, share.entities)?;
+    let formulas = formulas_of(alloc, source, share.constraints)?;
     Ok(Trees {
         numbers,
         rows,
@@ -96,28 +83,30 @@ fn trees_of<const S: u32>(
 impl<const S: u32> System<S> {
     /// The system of a group over an outline: its unknowns, the trees of its entities, its rows, and the formulas of its
     /// constraints, each made once. `numbers` has the parameters of this group and of earlier ones, and the numbers at which
-    /// the entities of earlier groups stand; for a drawing by line segments those of its own normal too.
+    /// the entities of earlier groups stand; for a drawing by line segments those of its own normal too. The share is what belongs
+    /// to the group.
     #[tactic(auto, unfolding(crate::specs::GroupSystem::group_system))]
     pub fn new(
         alloc: Global,
         group: &Group<S>,
         outline: &Outline<S>,
-        constraints: &[Constraint<S>],
+        share: Share<'_, S>,
         numbers: &Numbers<S>,
     ) -> Result<System<S>, NoMemory>
         requires scale { IsScale S }
-        requires known { IsKnown group.now outline.now.entities constraints.now numbers.now }
-        ensures { IfOk result (λ y. system_of y ≡ group_system group.now outline.now.entities constraints.now numbers.now) }
+        requires entities { share.entities.now ≡ of_group entity_group group.now.id.0 outline.now.entities }
+        requires constraints { share.constraints.now ≡ own_constraints group.now share.constraints.now }
+        requires known { IsKnown group.now outline.now.entities share.constraints.now numbers.now }
+        ensures { IfOk result (λ y. system_of y ≡ group_system group.now outline.now.entities share.entry.constraints.now numbers.now) }
     {
-        let own = constraints_in(alloc, group, constraints)?;
-        let unknowns = unknowns_in(alloc, group, outline, &own)?;
+        let unknowns = unknowns_in(alloc, group, outline, share)?;
         let source = Source {
             outline,
             numbers,
             unknowns: &unknowns,
             group: group.id,
         };
-        let made = trees_of(alloc, &source, group, &own);
+        let made = trees_of(alloc, &source, group, share);
         let Source {
             outline: _outline,
             numbers: _numbers,

@@ -16,7 +16,7 @@ ghost use Rattle.sk_face.specs.FaceRows.{face_normal};
 ghost use Rattle.sk_system.specs.ByHandle.{flat_by};
 ghost use Rattle.sk_system.specs.Contacts.{face_of};
 ghost use Rattle.sk_system.specs.OwnRows.{nought, read_numbers, own_numbers, unit_row, arc_row, arc_row_of, named_entity_rows, along, within, named_group_rows};
-ghost use Rattle.sk_system.specs.GroupSystem.{numbers_of, own_rows_of};
+ghost use Rattle.sk_system.specs.GroupSystem.{entities_of, numbers_of, own_rows_of};
 ghost use Rattle.sk_system.specs.Views.{numbers_view};
 
 use crate::NoMemory;
@@ -151,16 +151,16 @@ fn push_numbers<const S: u32>(
 pub(crate) fn numbers_in<const S: u32>(
     alloc: Global,
     source: &Source<'_, S>,
+    own: &[Entity<S>],
 ) -> Result<Vec<OwnNumbers<S>>, NoMemory>
     requires scale { IsScale S }
     requires source { IsSource (source_of source.now) }
+    requires own { own.now ≡ entities_of (source_of source.now) }
     ensures { IfOk result (λ v. map numbers_view v.items ≡ numbers_of (source_of source.now)) }
 {
     let mut numbers = Vec::new(alloc);
-    for e in source.outline.entities.as_slice() {
-        if e.group.0 == source.group.0 {
-            push_numbers(alloc, &mut numbers, source, e)?;
-        }
+    for e in own {
+        push_numbers(alloc, &mut numbers, source, e)?;
     }
     Ok(numbers)
 }
@@ -339,16 +339,16 @@ pub(crate) fn rows_in<const S: u32>(
     alloc: Global,
     source: &Source<'_, S>,
     group: &Group<S>,
+    own: &[Entity<S>],
 ) -> Result<Vec<Row<S>>, NoMemory>
     requires scale { IsScale S }
     requires source { IsSource (source_of source.now) }
+    requires own { own.now ≡ entities_of (source_of source.now) }
     ensures { IfOk result (λ v. map row_of v.items ≡ own_rows_of (source_of source.now) group.now) }
 {
     let mut rows = Vec::new(alloc);
-    for e in source.outline.entities.as_slice() {
-        if e.group.0 == source.group.0 {
-            push_entity_rows(alloc, &mut rows, source, e)?;
-        }
+    for e in own {
+        push_entity_rows(alloc, &mut rows, source, e)?;
     }
     push_group_rows(alloc, &mut rows, source, group)?;
     Ok(rows)
