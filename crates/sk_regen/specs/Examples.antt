@@ -24,7 +24,10 @@ use Rattle.sk_geom.specs.Sources.{act_numbers, four_params, three_params, param_
 use Rattle.sk_system.specs.ByHandle.{frame_by}
 use Rattle.sk_system.specs.GroupSystem.{group_system, acts_at}
 use Rattle.sk_system.specs.OwnRows.{own_numbers}
-use Rattle.sk_regen.specs.Regeneration.{point_of, fixed_of, placed}
+use Rattle.sk_solve.specs.declared.report.Listed.{Listed}
+use Rattle.sk_solve.specs.declared.result.Verdict.TheVariants.{Unsolved}
+use Rattle.sk_regen.specs.Works.{Works}
+use Rattle.sk_regen.specs.Regeneration.{point_of, fixed_of, placed, left_over}
 use Rattle.sk_regen.specs.GroupWorks.{start_of, frame_of, bad_frame_of, framed, acts_of, first_numbers, references}
 use Rattle.sk_regen.specs.Likeness.{owner, outside, group_reads}
 
@@ -201,3 +204,12 @@ reads g = map (λ (e : EntityId). e.0) (group_reads g)
 pub what_groups_read : map reads (group 4 Space false 7 8 ∷ group 4 Plane false 7 8 ∷ group 4 Plane true 7 8 ∷ group 4 Extrude false 7 8 ∷ group 4 Translate false 7 8 ∷ group 4 Linked false 7 8 ∷ []) ≡
     [] ∷ [] ∷ (7 ∷ 8 ∷ []) ∷ (7 ∷ []) ∷ (7 ∷ []) ∷ [] ∷ []
 what_groups_read = refl
+
+-- ---- a group that isn't listed
+
+abbrev unsolved : ℕ → Listed 36
+unsolved g = record { group = record { 0 = g }; params = []; result = record { verdict = Unsolved; point = pos 5 ∷ []; certificate = None } }
+
+-- whatever it works on, its member of the earlier report stays as it was handed in: unsolved, at its point
+pub handed_in : (w : Works 36) (n : Numbers 36) → (left_over w [] (record { 0 = 2 } ∷ []) (unsolved 2 ∷ unsolved 3 ∷ unsolved 4 ∷ []) n (record { 0 = 3 })).members ≡ unsolved 3 ∷ []
+handed_in w n = refl

@@ -16,12 +16,21 @@ use Rattle.sk_model.specs.Typed.{Typed}
 use Rattle.sk_solve.specs.declared.report.Listed.{Listed}
 use Rattle.sk_regen.specs.Works.{Works}
 use Rattle.sk_regen.specs.Regeneration.{Left, unknowns, fixed_of}
-use Rattle.sk_regen.specs.GroupWorks.{all_params, all_acts, params_of, is_one_of, start_of, bad_frame_of, seen_of, acts_of, first_numbers}
+use Rattle.sk_types.specs.declared.handle.RequestId.{RequestId}
+use Rattle.sk_system.specs.declared.shares.Shares.{Shares}
+use Rattle.sk_system.specs.Shares.{AreParted, constraint_group, entity_group}
+use Rattle.sk_regen.specs.GroupWorks.{all_params, all_acts, params_of, is_one_of, start_of, bad_frame_of, seen_of, acts_of, first_numbers, request_handle}
 
 -- the handles are those of all parameters and of all entities with numbers
 pub record HasAll {s : ℕ} (m : Typed s) (o : Outline s) (n : Numbers s) : Type 0 where
   pub params : map value_handle n.params ≡ map value_handle (all_params m.groups o.entities)
   pub acts : map act_handle n.acts ≡ map act_handle (all_acts o.entities)
+
+-- the requests with their places, and what belongs to each group
+pub record ArePlaced {s : ℕ} (m : Typed s) (o : Outline s) (places : List RequestId) (shares : Shares s) : Type 0 where
+  pub requests : places ≡ map request_handle m.requests
+  pub entities : AreParted entity_group o.entities shares.entities.items
+  pub constraints : AreParted constraint_group m.constraints shares.constraints.items
 
 -- the model has passed typing, the outline is its own, the group is in it, and the numbers are whole
 pub record IsGround {s : ℕ} (m : Typed s) (o : Outline s) (n : Numbers s) (g : Group s) : Type 0 where

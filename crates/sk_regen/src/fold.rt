@@ -11,8 +11,7 @@ ghost use Rattle.sk_chain.specs.Laws.{IsFound, IsOutlineOf};
 ghost use Rattle.sk_model.specs.Changes.{params_set, with_params};
 ghost use Rattle.sk_model.specs.Checked.{AreChecked};
 ghost use Rattle.sk_model.specs.EntityRecords.{entity_records};
-ghost use Rattle.sk_regen.specs.Ground.{BoxesSound, HasAll, IsGround, group_works};
-ghost use Rattle.sk_regen.specs.GroupWorks.{request_handle};
+ghost use Rattle.sk_regen.specs.Ground.{ArePlaced, BoxesSound, HasAll, IsGround, group_works};
 ghost use Rattle.sk_regen.specs.NewText.{reported, text_with};
 ghost use Rattle.sk_regen.specs.Below.{BoxesOver, model_works, over_dirty};
 ghost use Rattle.sk_regen.specs.Regeneration.{is_listed, left_over, taken, regenerated_over};
@@ -27,6 +26,7 @@ use sk_count::Steps;
 use sk_model::Model;
 use sk_num::Items;
 use sk_solve::{Listed, Report};
+use sk_system::Shares;
 use sk_types::{Group, GroupId, Numbers, Outline};
 use std::alloc::Global;
 use std::sync::ledger::Ledger;
@@ -66,7 +66,7 @@ fn left_over<L: Ledger, const S: u32>(
     steps: &mut Steps<L>,
 ) -> Result<Left<S>, NoMemory>
     requires scale { IsScale S }
-    requires places { ground.now.requests.now.keys ≡ map request_handle ground.now.model.now.lists.requests }
+    requires places { ArePlaced ground.now.model.now.lists ground.now.outline.now ground.now.requests.now.keys ground.now.shares.now }
     requires ground { IsGround ground.now.model.now.lists ground.now.outline.now numbers.old group.now }
     ensures value { IfOk result (λ x. x ≡ left_over (group_works ground.now.model.now.lists ground.now.outline.now group.now) ground.now.model.now.lists.params dirty.now before.now numbers.old group.now.id) }
     ensures sound { IfOk result (λ x. is_listed dirty.now group.now.id ≡ true → BoxesSound (group_works ground.now.model.now.lists ground.now.outline.now group.now) numbers.old group.now.id x) }
@@ -92,7 +92,7 @@ fn take_group<L: Ledger, const S: u32>(
     steps: &mut Steps<L>,
 ) -> Result<(), NoMemory>
     requires scale { IsScale S }
-    requires places { ground.now.requests.now.keys ≡ map request_handle ground.now.model.now.lists.requests }
+    requires places { ArePlaced ground.now.model.now.lists ground.now.outline.now ground.now.requests.now.keys ground.now.shares.now }
     requires checked { AreChecked ground.now.model.now.lists }
     requires outline { IsOutlineOf ground.now.model.now.lists ground.now.outline.now }
     requires there { IsFound ground.now.model.now.lists.groups group }
@@ -128,7 +128,7 @@ fn folded<L: Ledger, const S: u32>(
     steps: &mut Steps<L>,
 ) -> Result<State<S>, NoMemory>
     requires scale { IsScale S }
-    requires places { ground.now.requests.now.keys ≡ map request_handle ground.now.model.now.lists.requests }
+    requires places { ArePlaced ground.now.model.now.lists ground.now.outline.now ground.now.requests.now.keys ground.now.shares.now }
     requires checked { AreChecked ground.now.model.now.lists }
     requires outline { IsOutlineOf ground.now.model.now.lists ground.now.outline.now }
     requires there { All (IsFound ground.now.model.now.lists.groups) order.now }
@@ -138,7 +138,7 @@ fn folded<L: Ledger, const S: u32>(
     ensures steps { OnOk result (steps.new ≡ steps.old + length (filter (is_listed dirty.now) order.now)) }
 {
     let mut state = State {
-        numbers: first_numbers(alloc, ground.model, ground.outline)?,
+        numbers: first_numbers(alloc, ground)?,
         members: Items::of(Vec::new(alloc)),
     };
     for group in order {
@@ -167,46 +167,94 @@ fn over_groups<L: Ledger, const S: u32>(
     ensures steps { OnOk result (steps.new ≡ steps.old + length (filter (is_listed dirty.now) order.now)) }
 {
     let places = places_of(alloc, model.requests())?;
+    let shares = Shares::of(alloc, outline.entities.as_slice(), model.constraints())?;
     let ground = Ground {
         model,
         outline,
         requests: &places,
+        shares: &shares,
     };
     let state = folded(alloc, &ground, order, dirty, before, steps)?;
     Ok(state)
 }
 
-/// Puts parameters and entity records into a model, or leaves it as it is.
-fn put_numbers<const S: u32>(
-    alloc: Global,
-    model: &mut Model<S>,
+/// The model with parameters and entity records put into it.
+fn with_numbers<const S: u32>(
+    model: Model<S>,
     outline: &Outline<S>,
     numbers: &Numbers<S>,
-) -> Result<(), NoMemory>
+) -> Result<Model<S>, NoMemory>
     requires scale { IsScale S }
     requires some { All (λ (p : Value S). p.id.0 ≢ 0) numbers.now.params }
     requires differ { IsDistinct nat_eq (map value_handle numbers.now.params) }
     requires acts { RiseBy act_handle numbers.now.acts }
-    ensures blocks { OnOk result (model.new.blocks ≡ made_anew EntityKind (entity_records numbers.now.acts outline.now.entities) (params_set numbers.now.params model.old.lists.params model.old.blocks)) }
-    ensures lists { OnOk result (model.new.lists ≡ record model.old.lists { params = with_params numbers.now.params model.old.lists.params }) }
-    ensures err { OnErr result (model.new ≡ model.old) }
+    ensures blocks { IfOk result (λ m. m.blocks ≡ made_anew EntityKind (entity_records numbers.now.acts outline.now.entities) (params_set numbers.now.params model.entry.lists.params model.entry.blocks)) }
+    ensures lists { IfOk result (λ m. m.lists ≡ record model.entry.lists { params = with_params numbers.now.params model.entry.lists.params }) }
 {
-    let mut next = model.copy(alloc)?;
+    let mut next = model;
     next.set_params(numbers.params.as_slice())?;
     next.set_entities(outline, numbers)?;
-    *model = next;
-    Ok(())
+    Ok(next)
 }
 
-/// Regenerates groups of a model over an earlier report, and puts what comes out into the model.
+/// A model that was regenerated, with what came out.
+#[derive(Drop)]
+pub struct Regenerated<const S: u32> {
+    /// The model: its parameters where they are kept, its entity records made anew.
+    pub model: Model<S>,
+    /// How the groups came out.
+    pub report: Report<S>,
+    /// The parameters and the numbers of the entities, both by rising handle.
+    pub numbers: Numbers<S>,
+}
+
+/// Regenerates groups of a model over an earlier report. The model is taken over, not copied.
 ///
 /// Group after group, in group order: a group of the list is solved over the numbers that the groups before it left, from its
 /// stored parameters, or where absent ones start, in one step. Any other keeps its stored parameters, or the start values of
-/// absent ones, and has its members of the earlier report. Group 1 stands where it stands, and isn't reported. The answer is the
-/// report, and the parameters and the numbers of entities, both by rising handle. The model then has these parameters, and its
-/// entity records are made anew. At an `Err` it is as it was.
+/// absent ones, and has its members of the earlier report. Group 1 stands where it stands, and isn't reported.
 ///
 /// The outline is the model's, whose remap lists have been extended.
+pub fn into_regenerated<L: Ledger, const S: u32>(
+    alloc: Global,
+    model: Model<S>,
+    outline: &Outline<S>,
+    dirty: &[GroupId],
+    before: &Report<S>,
+    steps: &mut Steps<L>,
+) -> Result<Regenerated<S>, NoMemory>
+    requires scale { IsScale S }
+    requires outline { IsOutlineOf model.lists outline.now }
+    ensures report { IfOk result (λ r. r.report.groups ≡ (over_dirty model.entry.lists outline.now dirty.now before.now.groups).members) }
+    ensures numbers { IfOk result (λ r. r.numbers ≡ (over_dirty model.entry.lists outline.now dirty.now before.now.groups).numbers) }
+    ensures rise { IfOk result (λ r. RiseBy act_handle r.numbers.acts) }
+    ensures sound { OnOk result (BoxesOver model.entry.lists outline.now dirty.now before.now.groups (reported outline.now)) }
+    ensures blocks { IfOk result (λ r. r.model.blocks ≡ text_with (over_dirty model.entry.lists outline.now dirty.now before.now.groups).numbers model.entry.lists outline.now model.entry.blocks) }
+    ensures lists { IfOk result (λ r. r.model.lists ≡ record model.entry.lists { params = with_params (over_dirty model.entry.lists outline.now dirty.now before.now.groups).numbers.params model.entry.lists.params }) }
+    ensures steps { OnOk result (steps.new ≡ steps.old + length (filter (is_listed dirty.now) (reported outline.now))) }
+{
+    let order = all_groups(alloc, outline)?;
+    let state = over_groups(
+        alloc,
+        &model,
+        outline,
+        &order,
+        dirty,
+        before.groups.as_slice(),
+        steps,
+    )?;
+    let State { numbers, members } = state;
+    let model = with_numbers(model, outline, &numbers)?;
+    Ok(Regenerated {
+        model,
+        report: Report { groups: members },
+        numbers,
+    })
+}
+
+/// Regenerates groups of a model over an earlier report, as `into_regenerated` does, and puts what comes out into the model. The answer
+/// is the report, and the parameters and the numbers of entities, both by rising handle. At an `Err` the model is as it was: a
+/// copy is regenerated.
 pub fn regenerate<L: Ledger, const S: u32>(
     alloc: Global,
     model: &mut Model<S>,
@@ -226,17 +274,13 @@ pub fn regenerate<L: Ledger, const S: u32>(
     ensures steps { OnOk result (steps.new ≡ steps.old + length (filter (is_listed dirty.now) (reported outline.now))) }
     ensures err { OnErr result (model.new ≡ model.old) }
 {
-    let order = all_groups(alloc, outline)?;
-    let state = over_groups(
-        alloc,
-        model,
-        outline,
-        &order,
-        dirty,
-        before.groups.as_slice(),
-        steps,
-    )?;
-    let State { numbers, members } = state;
-    put_numbers(alloc, model, outline, &numbers)?;
-    Ok((Report { groups: members }, numbers))
+    let copy = model.copy(alloc)?;
+    let done = into_regenerated(alloc, copy, outline, dirty, before, steps)?;
+    let Regenerated {
+        model: next,
+        report,
+        numbers,
+    } = done;
+    *model = next;
+    Ok((report, numbers))
 }

@@ -18,7 +18,7 @@ mod starts;
 mod state;
 mod systems;
 
-pub use fold::{all_groups, regenerate};
+pub use fold::{Regenerated, all_groups, into_regenerated, regenerate};
 pub use state::{Left, State};
 pub use std::alloc::AllocError as NoMemory;
 

@@ -9,18 +9,18 @@ ghost use Rattle.sk_types.specs.declared.group.Group.{Group as AnyGroup};
 ghost use Rattle.sk_types.specs.Handles.{maker_of};
 ghost use Rattle.sk_chain.specs.Laws.{IsOutlineOf};
 ghost use Rattle.sk_model.specs.Checked.{AreChecked};
-ghost use Rattle.sk_regen.specs.Ground.{HasAll};
+ghost use Rattle.sk_regen.specs.Ground.{ArePlaced, HasAll};
 ghost use Rattle.sk_regen.specs.GroupWorks.{reference, reference_by, reference_quaternions, params_of, blank, first_numbers};
 
 use crate::NoMemory;
 use crate::blank::{all_acts, all_params};
+use crate::ground::{Ground, unknowns_in};
 use crate::numbers::{put_acts, put_params};
 use crate::systems::acts_over;
 use sk_chain::group_at;
-use sk_model::Model;
 use sk_num::{Grid, Items};
 use sk_types::{
-    Entity, Group, GroupId, Maker, Numbers, Outline, ParamId, ParamValue, RequestId, unknown_params,
+    Entity, Group, GroupId, Maker, Numbers, ParamId, ParamValue, RequestId, unknown_params,
 };
 use std::alloc::Global;
 
@@ -122,31 +122,24 @@ fn blank<const S: u32>(
 #[tactic(auto, unfolding(crate::specs::GroupWorks::first_numbers, crate::specs::GroupWorks::references))]
 pub(crate) fn first_numbers<const S: u32>(
     alloc: Global,
-    model: &Model<S>,
-    outline: &Outline<S>,
+    ground: &Ground<'_, S>,
 ) -> Result<Numbers<S>, NoMemory>
     requires scale { IsScale S }
-    requires checked { AreChecked model.now.lists }
-    requires outline { IsOutlineOf model.now.lists outline.now }
-    ensures value { IfOk result (λ n. n ≡ first_numbers model.now.lists.groups outline.now.entities model.now.lists.constraints) }
-    ensures whole { IfOk result (λ n. HasAll model.now.lists outline.now n) }
+    requires places { ArePlaced ground.now.model.now.lists ground.now.outline.now ground.now.requests.now.keys ground.now.shares.now }
+    requires checked { AreChecked ground.now.model.now.lists }
+    requires outline { IsOutlineOf ground.now.model.now.lists ground.now.outline.now }
+    ensures value { IfOk result (λ n. n ≡ first_numbers ground.now.model.now.lists.groups ground.now.outline.now.entities ground.now.model.now.lists.constraints) }
+    ensures whole { IfOk result (λ n. HasAll ground.now.model.now.lists ground.now.outline.now n) }
 {
-    let entities = outline.entities.as_slice();
+    let model = ground.model;
+    let entities = ground.outline.entities.as_slice();
     let mut numbers = blank(alloc, model.groups(), entities)?;
     let Some(group) = group_at(model.groups(), GroupId(1)) else {
         return Ok(numbers);
     };
-    let unknowns = unknown_params(alloc, model.constraints(), entities, group)?;
+    let unknowns = unknowns_in(alloc, ground, group)?;
     let params = references(alloc, entities, group)?;
-    let acts = acts_over(
-        alloc,
-        model,
-        outline,
-        group,
-        &unknowns,
-        &mut numbers,
-        &params,
-    )?;
+    let acts = acts_over(alloc, ground, group, &unknowns, &mut numbers, &params)?;
     put_params(&mut numbers.params, &params);
     put_acts(&mut numbers.acts, &acts);
     Ok(numbers)

@@ -1,21 +1,20 @@
 // One group: where its parameters start, how it comes out, and what it leaves.
 
-ghost use Rattle.std.specs.Prelude.{◌≡◌, ◌+◌, ◌∷◌, [], length, map, unwrap_or, IfOk, IfSome, OnOk};
+ghost use Rattle.std.specs.Prelude.{◌≡◌, ◌+◌, ◌∷◌, [], length, unwrap_or, IfOk, IfSome, OnOk};
 ghost use Rattle.sk_num.specs.Scale.{IsScale};
 ghost use Rattle.sk_types.specs.Lookups.{value_of};
-ghost use Rattle.sk_types.specs.Params.{unknown_params};
 ghost use Rattle.sk_krawczyk.specs.Answers.{IsSoundAt, names_at};
 ghost use Rattle.sk_solve.specs.Held.{result_by};
 ghost use Rattle.sk_solve.specs.Search.{verdict_over};
 ghost use Rattle.sk_system.specs.GroupSystem.{seen_at};
 ghost use Rattle.sk_system.specs.SystemViews.{system_of as made_of};
-ghost use Rattle.sk_regen.specs.Ground.{BoxesSound, IsGround, group_works};
-ghost use Rattle.sk_regen.specs.GroupWorks.{start_of, request_handle};
+ghost use Rattle.sk_regen.specs.Ground.{ArePlaced, BoxesSound, IsGround, group_works};
+ghost use Rattle.sk_regen.specs.GroupWorks.{start_of};
 ghost use Rattle.sk_regen.specs.Regeneration.{started, frame_verdict, unless_bad, left_by, left_as, members_of};
 
 use crate::NoMemory;
 use crate::frames::bad_frame_of;
-use crate::ground::Ground;
+use crate::ground::{Ground, params_in, unknowns_in};
 use crate::parameters::{fixed_of, placed, point_of};
 use crate::starts::start_of;
 use crate::state::Left;
@@ -25,7 +24,7 @@ use sk_geom::FrameFault;
 use sk_num::{Grid, Items};
 use sk_solve::{GroupResult, Listed, Verdict, solve_group};
 use sk_system::System;
-use sk_types::{Group, GroupId, Numbers, ParamId, ParamValue, unknown_params};
+use sk_types::{Group, GroupId, Numbers, ParamId, ParamValue};
 use std::alloc::Global;
 use std::sync::ledger::Ledger;
 
@@ -38,7 +37,7 @@ fn start_at<const S: u32>(
     id: ParamId,
 ) -> Result<Grid<S>, NoMemory>
     requires scale { IsScale S }
-    requires places { ground.now.requests.now.keys ≡ map request_handle ground.now.model.now.lists.requests }
+    requires places { ArePlaced ground.now.model.now.lists ground.now.outline.now ground.now.requests.now.keys ground.now.shares.now }
     requires ground { IsGround ground.now.model.now.lists ground.now.outline.now numbers.now group.now }
     ensures { IfOk result (λ z. z ≡ unwrap_or (value_of id.0 ground.now.model.now.lists.params) (start_of ground.now.model.now.lists.requests ground.now.outline.now.entities numbers.now group.now id)) }
 {
@@ -66,11 +65,11 @@ pub(crate) fn started<const S: u32>(
     group: &Group<S>,
 ) -> Result<Vec<ParamValue<S>>, NoMemory>
     requires scale { IsScale S }
-    requires places { ground.now.requests.now.keys ≡ map request_handle ground.now.model.now.lists.requests }
+    requires places { ArePlaced ground.now.model.now.lists ground.now.outline.now ground.now.requests.now.keys ground.now.shares.now }
     requires ground { IsGround ground.now.model.now.lists ground.now.outline.now numbers.now group.now }
     ensures { IfOk result (λ v. v.items ≡ started (group_works ground.now.model.now.lists ground.now.outline.now group.now) ground.now.model.now.lists.params numbers.now group.now.id) }
 {
-    let own = unknown_params(alloc, &[], ground.outline.entities.as_slice(), group)?;
+    let own = params_in(alloc, ground, group)?;
     let mut params = Vec::new(alloc);
     for id in own {
         let value = start_at(alloc, ground, numbers, group, id)?;
@@ -134,21 +133,20 @@ pub(crate) fn left_by<L: Ledger, const S: u32>(
     steps: &mut Steps<L>,
 ) -> Result<Left<S>, NoMemory>
     requires scale { IsScale S }
-    requires places { ground.now.requests.now.keys ≡ map request_handle ground.now.model.now.lists.requests }
+    requires places { ArePlaced ground.now.model.now.lists ground.now.outline.now ground.now.requests.now.keys ground.now.shares.now }
     requires ground { IsGround ground.now.model.now.lists ground.now.outline.now numbers.old group.now }
     ensures value { IfOk result (λ x. x ≡ left_by (group_works ground.now.model.now.lists ground.now.outline.now group.now) ground.now.model.now.lists.params numbers.old group.now.id) }
     ensures sound { IfOk result (BoxesSound (group_works ground.now.model.now.lists ground.now.outline.now group.now) numbers.old group.now.id) }
     ensures numbers { OnOk result (numbers.new ≡ numbers.old) }
     ensures steps { OnOk result (steps.new ≡ steps.old + 1) }
 {
-    let (model, outline) = (ground.model, ground.outline);
-    let entities = outline.entities.as_slice();
-    let unknowns = unknown_params(alloc, model.constraints(), entities, group)?;
+    let unknowns = unknowns_in(alloc, ground, group)?;
     let started = started(alloc, ground, numbers, group)?;
     let fixed = fixed_of(alloc, &unknowns, &started)?;
     let point = point_of(alloc, &unknowns, &started)?;
+    let entities = ground.outline.entities.as_slice();
     let fault = bad_frame_of(entities, numbers.acts.as_slice(), group);
-    let system = system_over(alloc, model, outline, group, numbers, &fixed)?;
+    let system = system_over(alloc, ground, group, numbers, &fixed)?;
     let result = result_from(alloc, &system, fault, &point, steps)?;
     let params = placed(alloc, &unknowns, &started, result.point.as_slice())?;
     let acts = system.acts(alloc, result.point.as_slice())?;
@@ -190,20 +188,14 @@ pub(crate) fn left_as<const S: u32>(
     before: &[Listed<S>],
 ) -> Result<Left<S>, NoMemory>
     requires scale { IsScale S }
-    requires places { ground.now.requests.now.keys ≡ map request_handle ground.now.model.now.lists.requests }
+    requires places { ArePlaced ground.now.model.now.lists ground.now.outline.now ground.now.requests.now.keys ground.now.shares.now }
     requires ground { IsGround ground.now.model.now.lists ground.now.outline.now numbers.old group.now }
     ensures value { IfOk result (λ x. x ≡ left_as (group_works ground.now.model.now.lists ground.now.outline.now group.now) ground.now.model.now.lists.params before.now numbers.old group.now.id) }
     ensures numbers { OnOk result (numbers.new ≡ numbers.old) }
 {
-    let (model, outline) = (ground.model, ground.outline);
-    let unknowns = unknown_params(
-        alloc,
-        model.constraints(),
-        outline.entities.as_slice(),
-        group,
-    )?;
+    let unknowns = unknowns_in(alloc, ground, group)?;
     let params = started(alloc, ground, numbers, group)?;
-    let acts = acts_over(alloc, model, outline, group, &unknowns, numbers, &params)?;
+    let acts = acts_over(alloc, ground, group, &unknowns, numbers, &params)?;
     Ok(Left {
         members: members_of(alloc, before, group.id)?,
         params: Items::of(params),

@@ -1,12 +1,10 @@
 use Rattle.std.proofs.Common.{◌≡◌, ◌∙◌, List, [], ◌∷◌, length, ap, sym, subst, lit≤}
 use Rattle.std.specs.Prelude.{ℤ, Option}
-use Rattle.sk_types.specs.declared.constraint.Constraint.{Constraint}
 use Rattle.sk_types.specs.declared.entity.Act.{Act}
 use Rattle.sk_types.specs.declared.entity.Entity.{Entity}
 use Rattle.sk_types.specs.declared.entity.ParamValue.{ParamValue}
 use Rattle.sk_types.specs.declared.handle.ParamId.{ParamId}
 use Rattle.sk_types.specs.Lookups.{Rise, RiseBy, act_handle, param_handle}
-use Rattle.sk_types.specs.Params.{OwnFit, unknown_params}
 use Rattle.sk_solve.specs.Search.{verdict_over}
 use Rattle.sk_solve.specs.Held.{result_by}
 use Rattle.sk_krawczyk.specs.Answers.{names_at}
@@ -22,21 +20,17 @@ use Rattle.sk_regen.proofs.Overs.{fixed-stand, fixed-differ, point-fits, system-
 use Rattle.sk_regen.proofs.Ready.{most, acts-rise, unknowns-rise}
 use Rattle.sk_regen.proofs.solving.left_by.Goals as goal
 
-pub unknown_params-requires : goal.unknown_params-requires
-unknown_params-requires g c = (lit≤ tt, (lit≤ tt, (lit≤ tt, (subst (λ (es : List (Entity g.row.S)). OwnFit es) (sym c.as_slice-entities.ensures) c.requires.ground.outline.own_fit, most _ _ _ _ c.requires.ground))))
+pub unknowns_in-requires : goal.unknowns_in-requires
+unknowns_in-requires g c = (lit≤ tt, (lit≤ tt, (c.requires.places, (c.requires.ground.outline.own_fit, most _ _ _ _ c.requires.ground))))
 
 pub fixed_of-requires : goal.fixed_of-requires
 fixed_of-requires g c =
-    let unknowns = c.in_ok-unknowns.ensures
-    ∙ ap (λ (cs : List (Constraint g.row.S)). unknown_params cs c.as_slice-entities.result.now c.args.group.now) c.constraints.ensures.constraints
-    ∙ ap (λ (es : List (Entity g.row.S)). unknown_params c.args.ground.now.model.now.lists.constraints es c.args.group.now) c.as_slice-entities.ensures in
+    let unknowns = c.in_ok-unknowns.ensures in
     (lit≤ tt, subst (λ (us : List ParamId). RiseBy param_handle us) (sym (c.deref.ensures.value ∙ unknowns)) (unknowns-rise _ _ _ _ c.requires.ground))
 
 pub point_of-requires : goal.point_of-requires
 point_of-requires g c =
-    let unknowns = c.in_ok-unknowns.ensures
-    ∙ ap (λ (cs : List (Constraint g.row.S)). unknown_params cs c.as_slice-entities.result.now c.args.group.now) c.constraints.ensures.constraints
-    ∙ ap (λ (es : List (Entity g.row.S)). unknown_params c.args.ground.now.model.now.lists.constraints es c.args.group.now) c.as_slice-entities.ensures in
+    let unknowns = c.in_ok-unknowns.ensures in
     (lit≤ tt, (lit≤ tt, subst (λ (us : List ParamId). RiseBy param_handle us) (sym (c.deref-3.ensures.value ∙ unknowns)) (unknowns-rise _ _ _ _ c.requires.ground)))
 
 pub bad_frame_of-fault-requires : goal.bad_frame_of-fault-requires
@@ -60,37 +54,14 @@ bad_frame_of-fault-requires g c = (
 pub system_over-requires : goal.system_over-requires
 system_over-requires g c =
     let own = ids-started c.args.ground.now.model.now.lists c.args.ground.now.outline.now c.args.numbers.now c.args.group.now c.deref-2.result.now (c.deref-2.ensures.value ∙ c.in_ok-started.ensures) in
-    let fixed = c.deref-5.ensures.value ∙ c.in_ok-fixed.ensures in (
-      lit≤ tt,
-      (
-        lit≤ tt,
-        (
-          lit≤ tt,
-          (
-            lit≤ tt,
-            (
-              lit≤ tt,
-              (
-                lit≤ tt,
-                (
-                  c.requires.scale,
-                  (
-                    c.requires.ground,
-                    (fixed-stand _ _ _ _ c.requires.ground c.deref-2.result.now own (is_one_of c.deref.result.now) c.deref-5.result.now fixed, fixed-differ _ _ _ _ c.requires.ground c.deref-2.result.now own (is_one_of c.deref.result.now) c.deref-5.result.now fixed),
-                  ),
-                ),
-              ),
-            ),
-          ),
-        ),
-      ),
-    )
+    let fixed = c.deref-5.ensures.value ∙ c.in_ok-fixed.ensures in
+    let stand = fixed-stand _ _ _ _ c.requires.ground c.deref-2.result.now own (is_one_of c.deref.result.now) c.deref-5.result.now fixed in
+    let differ = fixed-differ _ _ _ _ c.requires.ground c.deref-2.result.now own (is_one_of c.deref.result.now) c.deref-5.result.now fixed in
+    (lit≤ tt, (lit≤ tt, (lit≤ tt, (lit≤ tt, (lit≤ tt, (c.requires.scale, (c.requires.places, (c.requires.ground, (stand, differ)))))))))
 
 pub result_from-requires : goal.result_from-requires
 result_from-requires g c =
-    let unknowns = c.in_ok-unknowns.ensures
-    ∙ ap (λ (cs : List (Constraint g.row.S)). unknown_params cs c.as_slice-entities.result.now c.args.group.now) c.constraints.ensures.constraints
-    ∙ ap (λ (es : List (Entity g.row.S)). unknown_params c.args.ground.now.model.now.lists.constraints es c.args.group.now) c.as_slice-entities.ensures in
+    let unknowns = c.in_ok-unknowns.ensures in
     let own = ids-started c.args.ground.now.model.now.lists c.args.ground.now.outline.now c.args.numbers.now c.args.group.now c.deref-4.result.now (c.deref-4.ensures.value ∙ c.in_ok-started.ensures) in
     let long = point-fits _ _ _ _ c.requires.ground c.deref-4.result.now own c.deref-3.result.now c.deref-6.result.now (c.deref-3.ensures.value ∙ unknowns) (c.deref-6.ensures.value ∙ c.in_ok-point.ensures) in
     let system = ap (λ (y : GroupSystem). length y.unknowns) c.in_ok-system.ensures.value
@@ -99,16 +70,12 @@ result_from-requires g c =
 
 pub placed-requires : goal.placed-requires
 placed-requires g c =
-    let unknowns = c.in_ok-unknowns.ensures
-    ∙ ap (λ (cs : List (Constraint g.row.S)). unknown_params cs c.as_slice-entities.result.now c.args.group.now) c.constraints.ensures.constraints
-    ∙ ap (λ (es : List (Entity g.row.S)). unknown_params c.args.ground.now.model.now.lists.constraints es c.args.group.now) c.as_slice-entities.ensures in
+    let unknowns = c.in_ok-unknowns.ensures in
     (lit≤ tt, (lit≤ tt, subst (λ (us : List ParamId). RiseBy param_handle us) (sym (c.deref-7.ensures.value ∙ unknowns)) (unknowns-rise _ _ _ _ c.requires.ground)))
 
 pub acts-requires : goal.acts-requires
 acts-requires g c =
-    let unknowns = c.in_ok-unknowns.ensures
-    ∙ ap (λ (cs : List (Constraint g.row.S)). unknown_params cs c.as_slice-entities.result.now c.args.group.now) c.constraints.ensures.constraints
-    ∙ ap (λ (es : List (Entity g.row.S)). unknown_params c.args.ground.now.model.now.lists.constraints es c.args.group.now) c.as_slice-entities.ensures in
+    let unknowns = c.in_ok-unknowns.ensures in
     let own = ids-started c.args.ground.now.model.now.lists c.args.ground.now.outline.now c.args.numbers.now c.args.group.now c.deref-4.result.now (c.deref-4.ensures.value ∙ c.in_ok-started.ensures) in
     let long = point-fits _ _ _ _ c.requires.ground c.deref-4.result.now own c.deref-3.result.now c.deref-6.result.now (c.deref-3.ensures.value ∙ unknowns) (c.deref-6.ensures.value ∙ c.in_ok-point.ensures) in
     let system = ap (λ (y : GroupSystem). length y.unknowns) c.in_ok-system.ensures.value
@@ -121,9 +88,7 @@ returns-clause-value g c =
     let us = c.in_ok-unknowns.unknowns.items in
     let ps = c.in_ok-started.started.items in
     let r = c.in_ok-result.result in
-    let unknowns = c.in_ok-unknowns.ensures
-    ∙ ap (λ (cs : List (Constraint g.row.S)). unknown_params cs c.as_slice-entities.result.now c.args.group.now) c.constraints.ensures.constraints
-    ∙ ap (λ (es : List (Entity g.row.S)). unknown_params c.args.ground.now.model.now.lists.constraints es c.args.group.now) c.as_slice-entities.ensures in
+    let unknowns = c.in_ok-unknowns.ensures in
     let fixed : c.deref-5.result.now ≡ fixed_of (is_one_of us) ps = c.deref-5.ensures.value ∙ c.in_ok-fixed.ensures
     ∙ ap (λ (l : List ParamId). fixed_of (is_one_of l) c.deref-2.result.now) c.deref.ensures.value ∙ ap (λ (l : List (ParamValue g.row.S)). fixed_of (is_one_of us) l) c.deref-2.ensures.value in
     let point : c.deref-6.result.now ≡ point_of (is_one_of us) ps = c.deref-6.ensures.value ∙ c.in_ok-point.ensures
@@ -147,9 +112,7 @@ returns-clause-sound g c =
     let us = c.in_ok-unknowns.unknowns.items in
     let ps = c.in_ok-started.started.items in
     let r = c.in_ok-result.result in
-    let unknowns = c.in_ok-unknowns.ensures
-    ∙ ap (λ (cs : List (Constraint g.row.S)). unknown_params cs c.as_slice-entities.result.now c.args.group.now) c.constraints.ensures.constraints
-    ∙ ap (λ (es : List (Entity g.row.S)). unknown_params c.args.ground.now.model.now.lists.constraints es c.args.group.now) c.as_slice-entities.ensures in
+    let unknowns = c.in_ok-unknowns.ensures in
     let fixed : c.deref-5.result.now ≡ fixed_of (is_one_of us) ps = c.deref-5.ensures.value ∙ c.in_ok-fixed.ensures
     ∙ ap (λ (l : List ParamId). fixed_of (is_one_of l) c.deref-2.result.now) c.deref.ensures.value ∙ ap (λ (l : List (ParamValue g.row.S)). fixed_of (is_one_of us) l) c.deref-2.ensures.value in
     let kept = c.of-2.ensures ∙ c.in_ok-params.ensures

@@ -6,7 +6,10 @@ use Rattle.sk_types.specs.declared.entity.Numbers.{Numbers}
 use Rattle.sk_types.specs.declared.entity.ParamValue.{ParamValue}
 use Rattle.sk_types.specs.declared.handle.EntityId.{EntityId}
 use Rattle.sk_types.specs.Lookups.{Rise, RiseBy, act_at, act_handle, value_handle}
+use Rattle.sk_system.specs.GroupSystem.{group_system, own_constraints}
 use Rattle.sk_system.specs.Known.{IsKnown}
+use Rattle.sk_system.specs.ShareLaws.{own-again, own-known, own-system}
+use Rattle.sk_system.specs.Shares.{constraint_group}
 use Rattle.sk_regen.specs.Ground.{stands_among}
 use Rattle.sk_regen.specs.GroupWorks.{framed, own_normal}
 use Rattle.sk_model.specs.Changes.{with_params}
@@ -33,9 +36,15 @@ put_frame-requires g c = (lit≤ tt, (lit≤ tt, (lit≤ tt, (c.requires.scale, 
 
 pub new-requires : goal.new-requires
 new-requires g c =
+    let m = c.args.ground.now.model.now.lists in
+    let es = c.args.ground.now.outline.now.entities in
+    let group = c.args.group.now in
     let now : Numbers g.row.S = record { params = c.put_params.new.params; acts = c.put_frame.new.acts } in
     let ready = known _ _ _ _ c.requires.ground now c.put_params.ensures.handles c.put_frame.ensures.handles in
-    (lit≤ tt, (lit≤ tt, (lit≤ tt, (lit≤ tt, (lit≤ tt, (c.requires.scale, subst (λ (cs : List (Constraint g.row.S)). IsKnown c.args.group.now c.args.outline.now.entities cs now) (sym c.constraints.ensures.constraints) ready))))))
+    let constraints : c.share-share.result.constraints.now ≡ own_constraints group m.constraints = c.share-share.ensures.constraints ∙ c.requires.places.constraints group.id.0 in
+    let own : c.share-share.result.constraints.now ≡ own_constraints group c.share-share.result.constraints.now = constraints ∙ sym (ap (own_constraints group) constraints ∙ own-again constraint_group group.id.0 m.constraints) in
+    let fit : IsKnown group es c.share-share.result.constraints.now now = subst (λ (cs : List (Constraint g.row.S)). IsKnown group es cs now) (sym constraints) (own-known group es m.constraints now ready) in
+    (lit≤ tt, (lit≤ tt, (lit≤ tt, (lit≤ tt, (lit≤ tt, (c.requires.scale, (c.share-share.ensures.entities ∙ c.requires.places.entities group.id.0, (own, fit))))))))
 
 pub put_params-requires-2 : goal.put_params-requires-2
 put_params-requires-2 g c = (
@@ -60,9 +69,21 @@ returns-clause-numbers g c =
     c.put_params-2.ensures.handles in
     let found : c.act_at-normal.result ≡ act_at (own_normal c.args.group.now).0 n.acts =
     c.act_at-normal.ensures ∙ ap (λ (e : EntityId). act_at e.0 c.as_slice-2.result.now) c.own_normal.ensures ∙ ap (act_at (own_normal c.args.group.now).0) c.as_slice-2.ensures in
-    let along : c.put_frame.new.acts ≡ framed c.args.outline.now.entities n.acts c.args.group.now =
+    let along : c.put_frame.new.acts ≡ framed c.args.ground.now.outline.now.entities n.acts c.args.group.now =
     c.put_frame.ensures.value ∙ ap (λ (es : List (Entity g.row.S)). framed es n.acts c.args.group.now) c.as_slice-3.ensures in
     elim c.match-normal.branch [
-      | in-Some w ↦ w.numbers-is ∙ same-numbers _ _ _ _ params (frame-back c.args.outline.now.entities n.acts c.args.group.now c.put_frame.new.acts w.put_act.new.acts w.in-Some.normal (sym found ∙ w.in-Some.is) along w.put_act.ensures.value)
-      | in-None w ↦ w.numbers-is ∙ same-numbers _ _ _ _ params (frame-none c.args.outline.now.entities n.acts c.args.group.now c.put_frame.new.acts (sym found ∙ w.in-None.is) along)
+      | in-Some w ↦ w.numbers-is ∙ same-numbers _ _ _ _ params (frame-back c.args.ground.now.outline.now.entities n.acts c.args.group.now c.put_frame.new.acts w.put_act.new.acts w.in-Some.normal (sym found ∙ w.in-Some.is) along w.put_act.ensures.value)
+      | in-None w ↦ w.numbers-is ∙ same-numbers _ _ _ _ params (frame-none c.args.ground.now.outline.now.entities n.acts c.args.group.now c.put_frame.new.acts (sym found ∙ w.in-None.is) along)
     ]
+
+pub returns-clause-value : goal.returns-clause-value
+returns-clause-value g c =
+    let n = c.args.numbers.now in
+    let m = c.args.ground.now.model.now.lists in
+    let es = c.args.ground.now.outline.now.entities in
+    let group = c.args.group.now in
+    let now : Numbers g.row.S = record { params = c.put_params.new.params; acts = c.put_frame.new.acts } in
+    let constraints : c.share-share.result.constraints.now ≡ own_constraints group m.constraints = c.share-share.ensures.constraints ∙ c.requires.places.constraints group.id.0 in
+    let along : c.put_frame.new.acts ≡ framed es n.acts group = c.put_frame.ensures.value ∙ ap (λ (l : List (Entity g.row.S)). framed l n.acts group) c.as_slice-3.ensures in
+    c.in_ok-system.ensures ∙ ap (λ (cs : List (Constraint g.row.S)). group_system group es cs now) constraints ∙ own-system group es m.constraints now
+    ∙ ap (λ (k : Numbers g.row.S). group_system group es m.constraints k) (same-numbers c.put_params.new.params (with_params c.args.fixed.now n.params) c.put_frame.new.acts (framed es n.acts group) c.put_params.ensures.value along)
