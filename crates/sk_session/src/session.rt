@@ -24,7 +24,7 @@ use sk_count::Steps;
 use sk_link::Parts;
 use sk_model::{Model, ModelFault};
 use sk_num::Items;
-use sk_regen::{all_groups, regenerate};
+use sk_regen::{Regenerated, all_groups, into_regenerated};
 use sk_solve::Report;
 use sk_types::{GroupId, Numbers, Outline};
 use std::alloc::Global;
@@ -95,38 +95,45 @@ fn extended<const S: u32>(
     Ok(outline)
 }
 
-// How every group comes out, with the numbers.
+// A model of which every group was regenerated, with what came out.
 #[derive(Drop)]
 struct Outcome<const S: u32> {
+    model: Model<S>,
     report: Report<S>,
     numbers: Numbers<S>,
     groups: Vec<GroupId>,
 }
 
-// Regenerates every group of a model, and puts what comes out into it.
+// Regenerates every group of a model.
 fn regenerate_all<const S: u32, L: Ledger>(
     alloc: Global,
-    model: &mut Model<S>,
+    model: Model<S>,
     outline: &Outline<S>,
     steps: &mut Steps<L>,
 ) -> Result<Outcome<S>, NoMemory>
     requires scale { IsScale S }
-    requires outline { IsOutlineOf model.old.lists outline.now }
-    ensures report { IfOk result (λ x. x.report.groups ≡ (all_of model.old.lists outline.now).members) }
-    ensures numbers { IfOk result (λ x. x.numbers ≡ (all_of model.old.lists outline.now).numbers) }
+    requires outline { IsOutlineOf model.lists outline.now }
+    ensures report { IfOk result (λ x. x.report.groups ≡ (all_of model.entry.lists outline.now).members) }
+    ensures numbers { IfOk result (λ x. x.numbers ≡ (all_of model.entry.lists outline.now).numbers) }
     ensures acts { IfOk result (λ x. RiseBy act_handle x.numbers.acts) }
     ensures groups { IfOk result (λ x. x.groups.items ≡ reported outline.now) }
-    ensures sound { OnOk result (AllSound model.old.lists outline.now) }
-    ensures blocks { OnOk result (model.new.blocks ≡ text_with (all_of model.old.lists outline.now).numbers model.old.lists outline.now model.old.blocks) }
-    ensures lists { OnOk result (model.new.lists ≡ record model.old.lists { params = with_params (all_of model.old.lists outline.now).numbers.params model.old.lists.params }) }
+    ensures sound { OnOk result (AllSound model.entry.lists outline.now) }
+    ensures blocks { IfOk result (λ x. x.model.blocks ≡ text_with (all_of model.entry.lists outline.now).numbers model.entry.lists outline.now model.entry.blocks) }
+    ensures lists { IfOk result (λ x. x.model.lists ≡ record model.entry.lists { params = with_params (all_of model.entry.lists outline.now).numbers.params model.entry.lists.params }) }
     ensures steps { OnOk result (steps.new ≡ steps.old + length (reported outline.now)) }
 {
     let groups = all_groups(alloc, outline)?;
     let before = Report {
         groups: Items::of(Vec::new(alloc)),
     };
-    let (report, numbers) = regenerate(alloc, model, outline, &groups, &before, steps)?;
+    let done = into_regenerated(alloc, model, outline, &groups, &before, steps)?;
+    let Regenerated {
+        model,
+        report,
+        numbers,
+    } = done;
     Ok(Outcome {
+        model,
         report,
         numbers,
         groups,
@@ -152,11 +159,11 @@ impl<const S: u32> Session<S> {
         law_typed(&model);
         let mut model = model;
         let outline = extended(alloc, &mut model, &parts)?;
-        let outcome = regenerate_all(alloc, &mut model, &outline, steps)?;
-        law_typed(&model);
+        let outcome = regenerate_all(alloc, model, &outline, steps)?;
+        law_typed(&outcome.model);
         Ok(Session {
             parts,
-            model,
+            model: outcome.model,
             outline,
             numbers: outcome.numbers,
             report: outcome.report,

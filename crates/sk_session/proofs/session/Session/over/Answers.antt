@@ -14,7 +14,7 @@ invariant_of-result g c =
     let x = c.in_ok-outcome.outcome in
     let e = c.in_ok-outcome.ensures in
     stands c.args.parts c.args.model c.extended.new.model c.in_ok-outline.outline c.in_ok-outline.ensures.ok
-    c.regenerate_all.new.model x.numbers x.report.groups c.of.result e.blocks e.lists e.numbers e.report (c.of.ensures ∙ e.groups)
+    x.model x.numbers x.report.groups c.of.result e.blocks e.lists e.numbers e.report (c.of.ensures ∙ e.groups)
     c.requires.scale c.requires.read c.law_typed.ensures.text c.law_typed.ensures.typed c.law_typed-2.ensures.checked e.acts
 
 pub returns-clause-value : goal.returns-clause-value
@@ -22,7 +22,7 @@ returns-clause-value g c =
     let x = c.in_ok-outcome.outcome in
     let e = c.in_ok-outcome.ensures in
     opened-is c.args.parts c.args.model c.extended.new.model c.in_ok-outline.outline c.in_ok-outline.ensures.ok
-    c.regenerate_all.new.model x.numbers x.report.groups c.of.result e.blocks e.lists e.numbers e.report (c.of.ensures ∙ e.groups)
+    x.model x.numbers x.report.groups c.of.result e.blocks e.lists e.numbers e.report (c.of.ensures ∙ e.groups)
 
 pub returns-clause-sound : goal.returns-clause-sound
 returns-clause-sound g c =
