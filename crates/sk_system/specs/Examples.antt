@@ -27,7 +27,7 @@ use Rattle.sk_eq_points.specs.PointRows.{height_over, over_plane, in_plane, poin
 use Rattle.sk_eq_lines.specs.LineRows.{line_formula, in_angle, first_direction, direction_at, normals_before, is_normal_at}
 use Rattle.sk_eq_curves.specs.CurveRows.{radius_auxiliaries, radius_of, diameter, curve_formula}
 use Rattle.sk_system.specs.ByHandle.{point_by, frame_by, distance_by}
-use Rattle.sk_system.specs.Shares.{list_at, of_group}
+use Rattle.sk_system.specs.Shares.{constraint_group, list_at, of_group}
 use Rattle.sk_system.specs.ConstraintParts.{needed, line_by, round_by, constraint_parts}
 use Rattle.sk_system.specs.Formulas.{constraint_formula}
 use Rattle.sk_system.specs.OwnRows.{own_numbers, unit_row, entity_row_trees, group_row_trees}
@@ -237,8 +237,11 @@ left = refl
 
 -- ---- what belongs to a group
 
--- those of group 2, in their order
-parted : of_group (λ (x : ℕ). x) 2 (2 ∷ 3 ∷ 2 ∷ 1 ∷ []) ≡ 2 ∷ 2 ∷ []
+abbrev constraint_in : ℕ → ℕ → Constraint 4
+constraint_in g id = let c = constraint id kind.POINT_IN_PLANE (pos 0) 327680 65536 in record c { group = record { 0 = g } }
+
+-- those of group 2, in the order of the file, whatever their handles
+parted : map (λ (c : Constraint 4). c.id.0) (of_group constraint_group 2 (constraint_in 2 9 ∷ constraint_in 3 8 ∷ constraint_in 2 7 ∷ constraint_in 1 6 ∷ [])) ≡ 9 ∷ 7 ∷ []
 parted = refl
 
 -- a group without a list has nothing
