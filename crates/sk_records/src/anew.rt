@@ -14,7 +14,7 @@ use crate::given::push_given;
 use crate::inserting::put_items;
 use crate::items::Item;
 use crate::kinds::{Kind, RecId};
-use crate::making::change_all;
+use crate::making::{change_all, change_in_place};
 use crate::places::{count, holds, place_of, push_places};
 use crate::removing::without_blank;
 use crate::rows::Span;
@@ -164,5 +164,26 @@ pub(crate) fn set_anew(
         set_standing(text, items, places, kind, lines)
     } else {
         change_all(text, header, items, places, kind, &[], &[], lines)
+    }
+}
+
+/// Makes the records of a kind anew, where they stand: at an `Err` some of it may be done.
+pub(crate) fn make_anew(
+    text: &mut Vec<u8>,
+    header: &mut Span,
+    items: &mut Vec<Item>,
+    places: &mut Vec<Vec<usize>>,
+    kind: Kind,
+    lines: &[u8],
+) -> Result<(), NoMemory>
+    requires first { IsWithin text.old.items header.old }
+    requires held { IsHeld text.old.items items.old.items places.old.items }
+    requires given { AreRecords kind lines.now }
+    ensures ok { OnOk result (IsAnew text.old.items text.new.items kind lines.now header.old header.new items.old.items items.new.items places.new.items) }
+{
+    if count(places, items, kind) > 0 {
+        set_standing(text, items, places, kind, lines)
+    } else {
+        change_in_place(text, header, items, places, kind, &[], &[], lines)
     }
 }

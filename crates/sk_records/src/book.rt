@@ -17,14 +17,14 @@ ghost use Rattle.sk_records.specs.declared.faults.ReadFault.TheVariants as fault
 ghost use Rattle.sk_records.specs.MapRows.{entry_lines};
 
 use crate::adding::add_given;
-use crate::anew::set_anew;
+use crate::anew::{make_anew, set_anew};
 use crate::change_list::ChangeList;
 use crate::changes::{set_list_at, set_value_at};
 use crate::classes::is_header;
 use crate::faults::ReadFault;
 use crate::items::Item;
 use crate::kinds::{Kind, RecId};
-use crate::making::change_all;
+use crate::making::{change_all, change_in_place};
 use crate::map_lines::{MapLines, map_lines};
 use crate::packing::{pack_items, pack_span};
 use crate::reading::read_lines;
@@ -220,8 +220,8 @@ impl Book {
         }
     }
 
-    /// Makes the changes of a list, one after the other, and then adds records of its kind in one list, as by `add_record`. At an
-    /// `Err` the book is as it was.
+    /// Makes the changes of a list, one after the other, and then adds records of its kind in one list, as by `add_record`: in a
+    /// copy, unless there is nothing to do. At an `Err` the book is as it was.
     ///
     /// The lines are whole records of the kind, each with an empty line (a line feed) behind it, each ended; there may be none.
     pub fn change(&mut self, changes: &ChangeList, added: &[u8]) -> Result<(), NoMemory>
@@ -230,6 +230,9 @@ impl Book {
         ensures ok { OnOk result (self.new ≡ add_records changes.now.kind (given_records added.now) (all_changed changes.now.kind changes.now.list self.old)) }
         ensures err { OnErr result (self.new ≡ self.old) }
     {
+        if changes.edits.is_empty() && added.is_empty() {
+            return Ok(());
+        }
         change_all(
             &mut self.text,
             &mut self.header,
@@ -240,6 +243,64 @@ impl Book {
             &changes.edits,
             added,
         )
+    }
+
+    /// The book with the changes of a list and the added records, as `change` makes them. At an `Err` there is no book any more: the
+    /// changes are made where the records stand, and nothing is copied.
+    pub fn into_changed(self, changes: &ChangeList, added: &[u8]) -> Result<Book, NoMemory>
+        requires exist { All (λ (c : Change). change_place c < length (records changes.now.kind self)) changes.now.list }
+        requires given { AreRecords changes.now.kind added.now }
+        ensures { IfOk result (λ book. book ≡ add_records changes.now.kind (given_records added.now) (all_changed changes.now.kind changes.now.list self)) }
+    {
+        let Book {
+            mut text,
+            mut header,
+            mut items,
+            mut places,
+        } = self;
+        change_in_place(
+            &mut text,
+            &mut header,
+            &mut items,
+            &mut places,
+            changes.kind,
+            &changes.bytes,
+            &changes.edits,
+            added,
+        )?;
+        Ok(Book {
+            text,
+            header,
+            items,
+            places,
+        })
+    }
+
+    /// The book with its entity records made anew, as `set_entities` makes them. At an `Err` there is no book any more.
+    pub fn into_entities_set(self, lines: &[u8]) -> Result<Book, NoMemory>
+        requires given { AreRecords Entity lines.now }
+        ensures { IfOk result (λ book. book ≡ made_anew Entity (given_records lines.now) self) }
+    {
+        let Book {
+            mut text,
+            mut header,
+            mut items,
+            mut places,
+        } = self;
+        make_anew(
+            &mut text,
+            &mut header,
+            &mut items,
+            &mut places,
+            Kind::Entity,
+            lines,
+        )?;
+        Ok(Book {
+            text,
+            header,
+            items,
+            places,
+        })
     }
 
     /// Takes a record away, and its tail: the empty line directly behind it, where there is one. It takes no memory.

@@ -113,3 +113,27 @@ pub(crate) fn change_all(
     *places = index;
     Ok(())
 }
+
+/// Makes changes of records of a kind, and puts whole records that a caller gives where records of the kind go, where they stand: at
+/// an `Err` some of it may be done.
+pub(crate) fn change_in_place(
+    text: &mut Vec<u8>,
+    header: &mut Span,
+    items: &mut Vec<Item>,
+    places: &mut Vec<Vec<usize>>,
+    kind: Kind,
+    bytes: &[u8],
+    edits: &[Edit],
+    added: &[u8],
+) -> Result<(), NoMemory>
+    requires first { IsWithin text.old.items header.old }
+    requires held { IsHeld text.old.items items.old.items places.old.items }
+    requires fit { All (EditFits kind bytes.now) edits.now }
+    requires exist { All (Exists kind (blocks_at text.old.items items.old.items)) (map (change_of bytes.now) edits.now) }
+    requires given { AreRecords kind added.now }
+    ensures ok { OnOk result (IsChanged text.old.items text.new.items kind (map (change_of bytes.now) edits.now) added.now header.old header.new items.old.items items.new.items places.new.items) }
+{
+    make_changes(text, items, places, kind, bytes, edits)?;
+    add_all(text, header, items, places, kind, added)?;
+    Ok(())
+}

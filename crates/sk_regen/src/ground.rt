@@ -14,7 +14,7 @@ use sk_system::Shares;
 use sk_types::{Group, Outline, ParamId, Request, RequestId, unknown_params};
 use std::alloc::Global;
 
-/// A model and its outline.
+/// A model and its outline, with what is looked up in them for each group.
 #[derive(Clone, Copy)]
 pub(crate) struct Ground<'a, const S: u32> {
     /// The model, with extended remap lists.
