@@ -191,6 +191,31 @@ pub(crate) fn put_params<const S: u32>(
     Ok(())
 }
 
+/// A book with the values of parameters set, as by `put_params`. The book is taken over, and at an `Err` it is gone.
+pub(crate) fn with_params_put<const S: u32>(
+    book: Book,
+    params: &mut Vec<ParamValue<S>>,
+    handles: &mut IndexSet<u32>,
+    values: &[ParamValue<S>],
+) -> Result<Book, NoMemory>
+    requires scale { IsScale S }
+    requires handles { handles.old.keys ≡ map value_handle params.old.items }
+    requires count { length (records Kind.Param book) ≡ length params.old.items }
+    requires distinct { IsDistinct nat_eq (map value_handle values.now) }
+    ensures book { IfOk result (λ b. b ≡ params_set values.now params.old.items book) }
+    ensures params { OnOk result (params.new.items ≡ with_params values.now params.old.items) }
+    ensures handles { OnOk result (handles.new.keys ≡ map value_handle params.new.items) }
+    ensures fits { OnOk result (All (λ (p : ParamValue S). IsInLimit p.value) values.now) }
+    ensures small { OnOk result (All (λ (p : ParamValue S). p.id.0 < 2 ^ 32) values.now) }
+{
+    let set = param_changes(*params.allocator(), params, handles, values)?;
+    params.extend_from_slice(&set.added)?;
+    add_handles(handles, &set.added)?;
+    let changed = book.into_changed(&set.changes, &set.lines)?;
+    set_values(params, handles, values);
+    Ok(changed)
+}
+
 /// Sets the remap list of the group whose record has this place.
 pub(crate) fn put_list<const S: u32>(
     book: &mut Book,

@@ -17,7 +17,7 @@ ghost use Rattle.sk_model.specs.Checked.{AreChecked};
 ghost use Rattle.sk_model.specs.Models.{lists_of, IsTyped};
 
 use crate::NoMemory;
-use crate::changes::{put_list, put_lists, put_params};
+use crate::changes::{put_list, put_lists, put_params, with_params_put};
 use crate::copying::copy_groups;
 use crate::entity_records::entity_text;
 use crate::faults::ModelFault;
@@ -249,6 +249,72 @@ impl<const S: u32> Model<S> {
             numbers.acts.as_slice(),
         )?;
         self.book.set_entities(&text)
+    }
+
+    /// The model with the values of parameters set, as by `set_params`. At an `Err` there is no model any more: nothing is copied.
+    pub fn into_params_set(self, values: &[ParamValue<S>]) -> Result<Model<S>, NoMemory>
+        requires scale { IsScale S }
+        requires some { All (λ (q : TypedParam S). q.id.0 ≢ 0) values.now }
+        requires distinct { IsDistinct nat_eq (map value_handle values.now) }
+        ensures blocks { IfOk result (λ m. m.blocks ≡ params_set values.now self.entry.lists.params self.entry.blocks) }
+        ensures lists { IfOk result (λ m. m.lists ≡ record self.entry.lists { params = with_params values.now self.entry.lists.params }) }
+    {
+        let Model {
+            book,
+            groups,
+            group_handles,
+            mut params,
+            mut param_handles,
+            requests,
+            constraints,
+        } = self;
+        let book = with_params_put(book, &mut params, &mut param_handles, values)?;
+        Ok(Model {
+            book,
+            groups,
+            group_handles,
+            params,
+            param_handles,
+            requests,
+            constraints,
+        })
+    }
+
+    /// The model with its entity records made anew, as by `set_entities`. At an `Err` there is no model any more: nothing is copied.
+    pub fn into_entities_set(
+        self,
+        outline: &Outline<S>,
+        numbers: &Numbers<S>,
+    ) -> Result<Model<S>, NoMemory>
+        requires scale { IsScale S }
+        requires acts { RiseBy act_handle numbers.now.acts }
+        ensures blocks { IfOk result (λ m. m.blocks ≡ made_anew Entity (entity_records numbers.now.acts outline.now.entities) self.entry.blocks) }
+        ensures lists { IfOk result (λ m. m.lists ≡ self.entry.lists) }
+    {
+        let Model {
+            book,
+            groups,
+            group_handles,
+            params,
+            param_handles,
+            requests,
+            constraints,
+        } = self;
+        let text = entity_text(
+            *params.allocator(),
+            outline.entities.as_slice(),
+            numbers.acts.as_slice(),
+        )?;
+        let book = book.into_entities_set(&text)?;
+        Ok(Model {
+            book,
+            groups,
+            group_handles,
+            params,
+            param_handles,
+            requests,
+            constraints,
+        })
     }
 
     /// Appends the text. At an `Err` nothing is appended.

@@ -191,9 +191,8 @@ fn with_numbers<const S: u32>(
     ensures blocks { IfOk result (λ m. m.blocks ≡ made_anew EntityKind (entity_records numbers.now.acts outline.now.entities) (params_set numbers.now.params model.entry.lists.params model.entry.blocks)) }
     ensures lists { IfOk result (λ m. m.lists ≡ record model.entry.lists { params = with_params numbers.now.params model.entry.lists.params }) }
 {
-    let mut next = model;
-    next.set_params(numbers.params.as_slice())?;
-    next.set_entities(outline, numbers)?;
+    let next = model.into_params_set(numbers.params.as_slice())?;
+    let next = next.into_entities_set(outline, numbers)?;
     Ok(next)
 }
 
