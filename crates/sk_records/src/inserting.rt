@@ -109,7 +109,7 @@ fn has_room(items: &[Item], at: usize) -> bool
 
 /// Makes room for two items at a place; what stands in the items stays as it is, also at an `Err`.
 ///
-/// Room is made for as many as an eighth of the items at once, so that adding one after the other costs little.
+/// Room is made for as many as a 32nd of the items at once, so that adding one after the other costs little.
 pub(crate) fn make_room(
     items: &mut Vec<Item>,
     places: &mut Vec<Vec<usize>>,
@@ -124,7 +124,7 @@ pub(crate) fn make_room(
     if has_room(items, at) {
         return Ok(());
     }
-    let count = items.len() / 8 + 2;
+    let count = items.len() / 32 + 2;
     let new = gones(*items.allocator(), count)?;
     insert_at(items, places, at, new)
 }
