@@ -1,5 +1,5 @@
 -- Quotients of whole numbers, rounded down, up, and to the nearest.
-use Rattle.std.proofs.Common.{◌≡◌, ℕ, suc, ◌<◌, ◌≤◌, ◌+◌, ◌*◌, ◌/◌, ap, ◌∙◌, ℤ, pos, negsuc, neg_ℤ, ◌≤ℤ◌, ◌+ℤ◌, ◌-ℤ◌, ◌*ℤ◌, arith, Bool, true, false, not, ◌⊎◌, inl, inr, ⊎_elim}
+use Rattle.std.proofs.Common.{◌≡◌, ℕ, suc, ◌<◌, ◌≤◌, ◌+◌, ◌*◌, ◌/◌, ◌^◌, ap, ◌∙◌, ℤ, pos, negsuc, neg_ℤ, ◌≤ℤ◌, ◌+ℤ◌, ◌-ℤ◌, ◌*ℤ◌, arith, Bool, true, false, not, ◌⊎◌, inl, inr, ⊎_elim}
 use Rattle.std.specs.Prelude.{◌<ℤ◌, unsigned_abs}
 use Rattle.std.specs.Int.{int_div_euclid, is_negative}
 use Rattle.std.proofs.lemmas.Int.{ints, unsigned_abs-mul}
@@ -34,6 +34,13 @@ floor_by-greatest a z k h l =
 
 pub floor_by-le : (a b : ℤ) (k : ℕ) → 0 < k → a ≤ℤ b → floor_by a k ≤ℤ floor_by b k
 floor_by-le a b k h l = floor_by-greatest b (floor_by a k) k h (≤ℤ_trans (floor_by-below a k h) l)
+
+pub floor_by-only : (a q : ℤ) (k : ℕ) → 0 < k → (q *ℤ pos k) ≤ℤ a → a <ℤ (q *ℤ pos k +ℤ pos k) → floor_by a k ≡ q
+floor_by-only a q k h l u =
+    let least = floor_by-greatest a q k h l in
+    let e = *ℤ-+ℤ_right q (pos 1) (pos k) in
+    let under : floor_by a k <ℤ (q +ℤ pos 1) = *ℤ-lt_cancel k (floor_by a k) (q +ℤ pos 1) (rw e (omega (arith, ints, u, floor_by-below a k h, one-*ℤ (pos k)))) in
+    omega (arith, ints, least, under)
 
 -- ---- rounded up: q k - k < a ≤ q k, and q is the least such
 
@@ -123,6 +130,43 @@ nearest_is p q h =
       no_nearer = λ z. omega (arith, gap, other z, (nearer a k n (unsigned_abs z) parts.0 parts.1).0);
       ties_away = λ z t. rw (unsigned_abs-signed (differ (is_negative p) (is_negative q)) n) ((nearer a k n (unsigned_abs z) parts.0 parts.1).1 (omega (arith, gap, other z, t)));
     }
+
+-- a number over k = 2 h to the nearest is the sum with h rounded down, of a negative one the sum with h - 1
+nearest-from_zero : (p h : ℤ) (k : ℕ) → h +ℤ h ≡ pos k → pos 0 <ℤ h → pos 0 ≤ℤ p → floor_by (p +ℤ h) k ≡ nearest p (pos k)
+nearest-from_zero (pos a) h k e o _ =
+    let n = (2 * a + k) / (2 * k) in
+    let parts = half_up-parts a k (omega (arith, ints, e, o)) in
+    let m = pos-*ℤ-pos n k in
+    rw (is_negative-pos a, is_negative-pos k) (floor_by-only (pos a +ℤ h) (pos n) k (omega (arith, ints, e, o)) (omega (arith, ints, e, m, parts.0)) (omega (arith, ints, e, m, parts.1)))
+nearest-from_zero (negsuc a) h k e o l = absurd (omega (arith, ints, l))
+
+nearest-below_zero : (p h : ℤ) (k : ℕ) → h +ℤ h ≡ pos k → pos 0 <ℤ h → p <ℤ pos 0 → floor_by (p +ℤ (h -ℤ pos 1)) k ≡ nearest p (pos k)
+nearest-below_zero (pos a) h k e o l = absurd (omega (arith, ints, l))
+nearest-below_zero (negsuc a) h k e o _ =
+    let n = (2 * suc a + k) / (2 * k) in
+    let parts = half_up-parts (suc a) k (omega (arith, ints, e, o)) in
+    let m = neg_ℤ-*ℤ (pos n) (pos k) ∙ ap neg_ℤ (pos-*ℤ-pos n k) in
+    rw (is_negative-pos k) (floor_by-only (negsuc a +ℤ (h -ℤ pos 1)) (neg_ℤ (pos n)) k (omega (arith, ints, e, o)) (omega (arith, ints, e, m, parts.1)) (omega (arith, ints, e, m, parts.0)))
+
+pub nearest-raised : (p h s : ℤ) (k : ℕ) → h +ℤ h ≡ pos k → pos 0 <ℤ h → unsigned_abs p ≤ 2 ^ 126 → s ≡ floor_by p (2 ^ 127) → floor_by (p +ℤ (h +ℤ s)) k ≡ nearest p (pos k)
+nearest-raised (pos a) h s k e o l f =
+    let z : h +ℤ s ≡ h = omega (arith, ints, l, f) in
+    rw z (nearest-from_zero (pos a) h k e o (omega (arith, ints)))
+nearest-raised (negsuc a) h s k e o l f =
+    let z : h +ℤ s ≡ h -ℤ pos 1 = omega (arith, ints, l, f) in
+    rw z (nearest-below_zero (negsuc a) h k e o (omega (arith, ints)))
+
+-- what is at most c k either way is at most c over k
+at_most : (n c k : ℕ) → 0 < k → 2 * (n * k) ≤ 2 * (c * k) + k → n ≤ c
+at_most n c k h l = unless n c (λ (b : c < n). let j : suc c * k ≤ n * k = mul-le-mul_right k b in absurd (omega (arith, h, l, j)))
+  where
+    unless : (n c : ℕ) → (c < n → n ≤ c) → n ≤ c
+    unless n c f = grind (arith, f)
+
+pub nearest-within : (p : ℤ) (k c : ℕ) → 0 < k → unsigned_abs p ≤ c * k → unsigned_abs (nearest p (pos k)) ≤ c
+nearest-within p k c h l =
+    let n = (2 * unsigned_abs p + k) / (2 * k) in
+    rw (unsigned_abs-signed (differ (is_negative p) (is_negative (pos k))) n) (at_most n c k h (omega (arith, l, (half_up-parts (unsigned_abs p) k h).0)))
 
 -- and it is the only one
 equal_or_opposite : (r t : ℤ) → unsigned_abs r ≡ unsigned_abs t → (r ≡ t) ⊎ (r ≡ neg_ℤ t)

@@ -72,7 +72,7 @@ impl<const S: u32> Grid<S> {
         if units < -limit || units > limit {
             return None;
         }
-        Grid::from_units(units as i64)
+        Some(Grid::small(units))
     }
 }
 

@@ -11,6 +11,7 @@
 #![tactic(auto)]
 
 mod decimal;
+mod divisor;
 mod draft;
 mod fault;
 mod grid;
@@ -25,6 +26,7 @@ mod spelling;
 mod whole_laws;
 
 pub use decimal::{Decimal, decimal_text, read_decimal};
+pub use divisor::Divisor;
 pub use fault::{NumFault, PastLimit};
 pub use grid::Grid;
 pub use items::{Items, Text};
@@ -32,7 +34,7 @@ pub use kernel::{Kernel, OfGrid};
 pub use mat::{Mat, SpanMat};
 pub use numeral::{hexadecimal_text, read_numeral};
 pub use roots::{isqrt_ceil, isqrt_floor, root};
-pub use rounding::{rdiv, rmul};
+pub use rounding::{rdiv, rmul, rmul_small};
 pub use span::Span;
 pub use spelling::{
     QuantityText, handle_text, quantity_law, quantity_text, read_handle, read_quantity, read_whole,

@@ -1,22 +1,14 @@
-ghost use Rattle.std.specs.Prelude.{◌≡◌, ◌≢◌, ◌<◌, ◌+◌, ◌*◌, ◌/◌, ◌^◌, ◌≤◌, ℤ, pos, ◌*ℤ◌, unsigned_abs, IfSome};
+ghost use Rattle.std.specs.Prelude.{◌≡◌, ◌≢◌, ◌<◌, ◌+◌, ◌*◌, ◌/◌, ◌^◌, ◌≤◌, ℤ, pos, ◌*ℤ◌, ◌+ℤ◌, ◌≤ℤ◌, ◌<ℤ◌, unsigned_abs, Some, IfSome};
 ghost use Rattle.sk_num.specs.Division.{nearest, signed, IsNearest};
 ghost use Rattle.sk_num.specs.Limit.{grid_of};
 ghost use Rattle.sk_num.specs.Rounding.{rounded_product, rounded_quotient};
 ghost use Rattle.sk_num.specs.Scale.{IsScale};
 
-use crate::grid::{Grid, one};
+use crate::divisor::Divisor;
+use crate::grid::Grid;
+use crate::span::floor;
 
-/// The quotient of magnitudes, rounded to the nearest, halves up.
-fn nearest_quotient(p: u128, q: u128) -> u128
-    requires p_in { p ≤ 2 ^ 124 }
-    requires q_in { q ≤ 2 ^ 124 }
-    requires not_zero { 0 < q }
-    ensures { result ≡ (2 * p + q) / (2 * q) }
-{
-    let doubled = 2 * p + q;
-    doubled / (2 * q)
-}
-
+/// The grid number with a sign and a magnitude, none past the limit.
 pub(crate) fn signed_grid<const S: u32>(negative: bool, magnitude: u128) -> Option<Grid<S>>
     ensures { result ≡ grid_of (signed negative magnitude) }
 {
@@ -27,15 +19,36 @@ pub(crate) fn signed_grid<const S: u32>(negative: bool, magnitude: u128) -> Opti
     Grid::from_units(if negative { -units } else { units })
 }
 
-/// The quotient of exact numbers, to the nearest grid number, halves away from zero.
-fn nearest_grid<const S: u32>(p: i128, q: i128) -> Option<Grid<S>>
-    requires p_in { unsigned_abs p ≤ 2 ^ 124 }
-    requires q_in { unsigned_abs q ≤ 2 ^ 124 }
-    requires not_zero { q ≢ pos 0 }
-    ensures { result ≡ grid_of (nearest p q) }
+/// How many units are a half.
+fn half<const S: u32>() -> i128
+    requires { IsScale S }
+    ensures value { result +ℤ result ≡ pos (2 ^ S) }
+    ensures positive { pos 0 <ℤ result }
+    ensures small { result ≤ℤ pos (2 ^ 43) }
 {
-    let magnitude = nearest_quotient(p.unsigned_abs(), q.unsigned_abs());
-    signed_grid((p < 0) != (q < 0), magnitude)
+    (1u64 << (S - 1)) as i128
+}
+
+/// An exact product in units, rounded to the nearest, halves away from zero.
+fn nearest_units<const S: u32>(product: i128) -> i128
+    requires scale { IsScale S }
+    requires fits { unsigned_abs product ≤ 2 ^ 124 }
+    ensures { result ≡ nearest product (pos (2 ^ S)) }
+{
+    // -1 for a negative product, so that its halves go down
+    let sign = floor(product, 127);
+    let raised = product + (half::<S>() + sign);
+    floor(raised, S)
+}
+
+/// The product of numbers whose product is small, rounded as `rmul` does: it is far from the limit.
+pub fn rmul_small<const S: u32>(a: Grid<S>, b: Grid<S>) -> Grid<S>
+    requires scale { IsScale S }
+    requires small { unsigned_abs (a *ℤ b) ≤ 2 ^ 96 }
+    ensures value { rounded_product S a.entry b.entry ≡ Some result }
+    ensures small { unsigned_abs result ≤ 2 ^ 60 }
+{
+    Grid::small(nearest_units::<S>(a.times(b)))
 }
 
 /// The product, rounded to the nearest unit, halves away from zero; None exactly past the limit.
@@ -45,8 +58,7 @@ pub fn rmul<const S: u32>(a: Grid<S>, b: Grid<S>) -> Option<Grid<S>>
     // a b 2^-S is nearest to what is answered
     ensures nearest { IfSome result (λ g. IsNearest (a.entry *ℤ b.entry) (pos (2 ^ S)) g) }
 {
-    let one = one::<S>();
-    nearest_grid(a.times(b), one)
+    Grid::of_wide(nearest_units::<S>(a.times(b)))
 }
 
 /// The quotient, rounded to the nearest unit, halves away from zero; None exactly past the limit.
@@ -57,5 +69,5 @@ pub fn rdiv<const S: u32>(a: Grid<S>, b: Grid<S>) -> Option<Grid<S>>
     // a 2^S / b is nearest to what is answered
     ensures nearest { IfSome result (λ g. IsNearest (a.entry *ℤ pos (2 ^ S)) b.entry g) }
 {
-    nearest_grid(a.scaled(), b.wide())
+    Divisor::new(b).quotient(a)
 }

@@ -1,4 +1,5 @@
-ghost use Rattle.std.specs.Prelude.{neg_ℤ, pos, unsigned_abs, ◌^◌, ◌≤◌, ◌≡◌, ◌↔◌, ℕ, ◌<◌, ◌+◌, ℤ, IsTrue, IfSome, ◌+ℤ◌, ◌-ℤ◌, ◌*ℤ◌, ◌≤ℤ◌};
+ghost use Rattle.std.specs.Prelude.{neg_ℤ, pos, ◌^◌, ◌≤◌, ◌≡◌, ◌↔◌, ℕ, ◌<◌, ◌+◌, ℤ, IsTrue, IfSome, ◌+ℤ◌, ◌-ℤ◌, ◌*ℤ◌, ◌≤ℤ◌};
+ghost use Rattle.std.specs.Int.{int_min, int_max};
 ghost use Rattle.sk_num.specs.Scale.{IsScale};
 ghost use Rattle.sk_num.specs.Rounding.{floor_at, ceil_at};
 ghost use Rattle.sk_num.specs.Ends.{least_product, greatest_product, span_between, span_add, span_sub, span_mul, mag, mid};
@@ -26,8 +27,8 @@ impl<const S: u32> Model for Span<S> {
     ghost inverse = { λ e. record { lo = e.lo; hi = e.hi } };
 }
 
-fn floor(z: i128, s: u32) -> i128
-    requires { s < 127 }
+pub(crate) fn floor(z: i128, s: u32) -> i128
+    requires { s < 128 }
     ensures { result ≡ floor_at s z }
 {
     z >> s
@@ -46,12 +47,12 @@ fn span_between<const S: u32>(lo: i128, hi: i128) -> Option<Span<S>>
     ensures { result ≡ span_between lo hi }
 {
     let limit = 1i128 << 62;
-    if lo < -limit || lo > limit || hi < -limit || hi > limit {
+    if lo < -limit || hi > limit {
         return None;
     }
     Some(Span {
-        lo: Grid::from_units(lo as i64)?,
-        hi: Grid::from_units(hi as i64)?,
+        lo: Grid::small(lo),
+        hi: Grid::small(hi),
     })
 }
 
@@ -114,8 +115,9 @@ impl<const S: u32> Span<S> {
         ensures encloses { IfSome result (λ c. (m n : ℕ) (x y : ℤ) →
             Encloses S m self.now x → Encloses S n o.now y → Encloses S (m + n) c (x *ℤ y)) }
     {
-        let lo = floor(self.least_product(o), S);
-        let hi = ceil(self.greatest_product(o), S);
+        let (least, greatest) = self.product_ends(o);
+        let lo = floor(least, S);
+        let hi = ceil(greatest, S);
         span_between(lo, hi)
     }
 
@@ -140,6 +142,31 @@ impl<const S: u32> Span<S> {
         ensures { IsTrue result ↔ ((self.now.lo ≤ℤ pos 0) × (pos 0 ≤ℤ self.now.hi)) }
     {
         self.lo.units() <= 0 && self.hi.units() >= 0
+    }
+
+    /// The least and the greatest product of ends.
+    fn product_ends(&self, o: &Span<S>) -> (i128, i128)
+        ensures least { result.0 ≡ least_product self.now o.now }
+        ensures greatest { result.1 ≡ greatest_product self.now o.now }
+        ensures fits { neg_ℤ (pos (2 ^ 124)) ≤ℤ result.1 }
+    {
+        if self.lo.units() == self.hi.units() {
+            o.multiple_ends(self.lo)
+        } else if o.lo.units() == o.hi.units() {
+            self.multiple_ends(o.lo)
+        } else {
+            (self.least_product(o), self.greatest_product(o))
+        }
+    }
+
+    /// The least and the greatest product of an end and a number.
+    fn multiple_ends(&self, k: Grid<S>) -> (i128, i128)
+        ensures least { result.0 ≡ int_min (self.now.lo *ℤ k.entry) (self.now.hi *ℤ k.entry) }
+        ensures greatest { result.1 ≡ int_max (self.now.lo *ℤ k.entry) (self.now.hi *ℤ k.entry) }
+        ensures fits { neg_ℤ (pos (2 ^ 124)) ≤ℤ result.1 }
+    {
+        let (low, high) = (self.lo.times(k), self.hi.times(k));
+        (low.min(high), low.max(high))
     }
 
     fn least_product(&self, o: &Span<S>) -> i128

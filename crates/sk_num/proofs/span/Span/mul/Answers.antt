@@ -16,7 +16,7 @@ ceil-hi-requires-clause-small g c = omega (arith, IsScale-bounds c.requires)
 pub span_between-requires : goal.span_between-requires
 span_between-requires g c =
     let l = least-le-greatest c.args.self.now c.args.o.now in
-    let h = floor_at-le-ceil_at g.row.S (to_z w128 (of_z w128 c.least_product.result)) (to_z w128 (of_z w128 c.greatest_product.result)) (omega (arith, ints, l)) in
+    let h = floor_at-le-ceil_at g.row.S (to_z w128 (of_z w128 c.product_ends-least.result.0)) (to_z w128 (of_z w128 c.product_ends-least.result.1)) (omega (arith, ints, l)) in
     omega (arith, ints, h)
 
 pub returns-clause-encloses : goal.returns-clause-encloses
