@@ -1,12 +1,13 @@
 -- A row taken from another, cell by cell.
-use Rattle.std.proofs.Common.{set, get_or-set_other, get_or-set_same, ⊎_elim, ◌≢◌, true, ◌*ℤ◌, subst, ◌≡◌, ℕ, zero, suc, ◌<◌, Option, Some, None, arith, refl, List, [], ◌∷◌, length, get_or, ℤ, pos}
+use Rattle.std.proofs.Common.{set, get_or-set_other, get_or-set_same, ⊎_elim, ◌≢◌, true, ◌*ℤ◌, subst, ◌≡◌, ℕ, zero, suc, ◌<◌, ◌≤◌, ◌*◌, Option, Some, None, arith, refl, List, [], ◌∷◌, length, get_or, ℤ, pos}
 use Rattle.std.specs.Prelude.{unsigned_abs}
-use Rattle.std.proofs.lemmas.Int.{ints}
+use Rattle.std.proofs.lemmas.Int.{ints, unsigned_abs-mul}
+use Rattle.std.proofs.Math.Nat.{mul-le-mul_left}
 use Rattle.std.proofs.lemmas.Bool.{le-leb, cases_eq}
 use Rattle.sk_num.specs.Limit.{IsInLimit, is_in_limit}
 use Rattle.sk_elim.specs.Rows.{IsRow}
 use Rattle.sk_elim.specs.ZeroLaws.{cell_less-still, cleared-still}
-use Rattle.sk_elim.specs.Elimination.{cell, cell_less, row_less, cleared}
+use Rattle.sk_elim.specs.Elimination.{cell, cell_less, row_less, cleared, greatest_cell}
 use Rattle.sk_num.specs.Each.{cons_if}
 
 pub cons_if-some : {A : Type 0} (o : Option A) (xs : Option (List A)) (y : A) (ys : List A) → o ≡ Some y → xs ≡ Some ys → cons_if o xs ≡ Some (y ∷ ys)
@@ -44,6 +45,15 @@ within-set us k x l h w j = ⊎_elim {C = IsInLimit (cell (set us k x) j)}
     (λ (e : j ≡ k). rw (e, get_or-set_same) h)
     (λ (n : j ≢ k). rw get_or-set_other (w j))
     (cases_eq j k)
+
+-- no number of a row is greater than the greatest, nor then its product
+pub cell-greatest : (ps : List ℤ) (k : ℕ) → unsigned_abs (cell ps k) ≤ greatest_cell ps
+cell-greatest [] k = omega (arith, ints)
+cell-greatest (p ∷ ps) zero = omega arith
+cell-greatest (p ∷ ps) (suc k) = omega (arith, cell-greatest ps k)
+
+pub product-greatest : (f : ℤ) (ps : List ℤ) (k : ℕ) → unsigned_abs (f *ℤ cell ps k) ≤ unsigned_abs f * greatest_cell ps
+product-greatest f ps k = rw (unsigned_abs-mul f (cell ps k)) (mul-le-mul_left (unsigned_abs f) (cell-greatest ps k))
 
 get_or-any : {A : Type 0} (xs : List A) (i : ℕ) (d e : A) → i < length xs → get_or xs i d ≡ get_or xs i e
 get_or-any [] i d e h = absurd (omega arith)

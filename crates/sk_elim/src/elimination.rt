@@ -14,7 +14,7 @@ use crate::build::augmented;
 use crate::fault::ElimFault;
 use crate::progress::{Pivot, Working};
 use crate::steps::{forced_steps, free_steps, has_column, has_row};
-use sk_num::{Grid, Items, Mat, SpanMat, rdiv};
+use sk_num::{Divisor, Grid, Items, Mat, SpanMat};
 use std::alloc::Global;
 
 /// What elimination leaves: the pivots in the order taken, the parameter columns without one, the suspect rows, and the
@@ -137,14 +137,14 @@ fn put_inverse_row<const S: u32>(
         (λ e. HaltsAs (or_past_limit (inverse_row S columns (progress_of S w.now) retained.now c)) e) }
 {
     let r = pivot_row(c, w.pivots.as_slice()) as usize;
+    let under = Divisor::new(number_or_zero(w.rows.as_slice(), r, c as usize));
     for i in 0..retained.len() {
         let over = number_or_zero(
             w.rows.as_slice(),
             r,
             columns as usize + retained[i] as usize,
         );
-        let under = number_or_zero(w.rows.as_slice(), r, c as usize);
-        match put_cell(cells, rdiv(over, under)) {
+        match put_cell(cells, under.quotient(over)) {
             Err(e) => return Err(e),
             Ok(()) => (),
         }

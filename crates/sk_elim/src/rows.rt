@@ -1,28 +1,22 @@
 ghost use Rattle.std.specs.List.{All};
-ghost use Rattle.std.specs.Prelude.{◌≡◌, ◌≢◌, ℕ, ℤ, pos, ◌-ℤ◌, ◌^◌, ◌++◌, ◌∷◌, [], ◌<◌, ◌≤◌, length, get_or, slice_set, Some, None, MatchOption, MatchResult, if◌then◌else◌, unsigned_abs};
+ghost use Rattle.std.specs.Prelude.{◌≡◌, ◌≢◌, ℕ, ℤ, pos, ◌-ℤ◌, ◌*ℤ◌, ◌^◌, ◌++◌, ◌∷◌, [], ◌*◌, ◌<◌, ◌≤◌, nat_le, length, get_or, slice_set, Some, None, IsTrue, MatchOption, MatchResult, if◌then◌else◌, unsigned_abs};
 ghost use Rattle.sk_num.specs.Limit.{IsInLimit, grid_of};
+ghost use Rattle.sk_num.specs.Rounding.{rounded_product};
 ghost use Rattle.sk_num.specs.Scale.{IsScale};
-ghost use Rattle.sk_elim.specs.Elimination.{cell, cell_less, row_less, cleared, pivoted};
+ghost use Rattle.sk_elim.specs.Elimination.{cell, cell_less, row_less, cleared, pivoted, greatest_cell};
 ghost use Rattle.sk_elim.specs.Filled.{is_filled, filled_places, less_at};
 ghost use Rattle.sk_elim.specs.Rows.{IsRow};
 ghost use Rattle.sk_elim.specs.declared.fault.ElimFault.TheVariants.{NoMemory};
 
 use crate::fault::ElimFault;
-use sk_num::{Grid, Items, rdiv, rmul};
+use sk_num::{Divisor, Grid, Items, rmul, rmul_small};
 use std::alloc::Global;
-
-fn minus<const S: u32>(a: Grid<S>, b: Grid<S>) -> i128
-    ensures value { result ≡ a.entry -ℤ b.entry }
-    ensures fits { unsigned_abs result ≤ 2 ^ 63 }
-{
-    a.units() as i128 - b.units() as i128
-}
 
 /// The difference, none where it passes the limit.
 fn less<const S: u32>(a: Grid<S>, b: Grid<S>) -> Option<Grid<S>>
     ensures { result ≡ grid_of (a.entry -ℤ b.entry) }
 {
-    Grid::of_wide(minus(a, b))
+    Grid::from_units(a.units().checked_sub(b.units())?)
 }
 
 /// The number at a place of a row.
@@ -36,12 +30,28 @@ pub(crate) fn at<const S: u32>(row: &[Grid<S>], k: usize) -> Grid<S>
     number
 }
 
-fn cell_less<const S: u32>(factor: Grid<S>, a: Grid<S>, p: Grid<S>) -> Option<Grid<S>>
-    requires { IsScale S }
-    ensures { result ≡ cell_less S factor.entry a.entry p.entry }
+/// The greatest absolute number of a row.
+pub(crate) fn greatest<const S: u32>(row: &[Grid<S>]) -> u64
+    ensures { result ≡ greatest_cell row.now }
 {
-    let product = rmul(factor, p)?;
-    less(a, product)
+    let mut top = 0u64;
+    for number in row {
+        top = top.max(number.units().unsigned_abs());
+    }
+    top
+}
+
+/// The product, none where it passes the limit. One that is known to be small is the quicker.
+fn product<const S: u32>(factor: Grid<S>, p: Grid<S>, is_small: bool) -> Option<Grid<S>>
+    requires scale { IsScale S }
+    requires small { IsTrue is_small → unsigned_abs (factor *ℤ p) ≤ 2 ^ 96 }
+    ensures { result ≡ rounded_product S factor.entry p.entry }
+{
+    if is_small {
+        Some(rmul_small(factor, p))
+    } else {
+        rmul(factor, p)
+    }
 }
 
 fn keep_if(places: &mut Vec<usize>, place: usize, wanted: bool) -> Result<(), ElimFault>
@@ -85,8 +95,10 @@ fn lessen<const S: u32>(
     place: usize,
     factor: Grid<S>,
     p: Grid<S>,
+    is_small: bool,
 ) -> Option<()>
     requires scale { IsScale S }
+    requires small { IsTrue is_small → unsigned_abs (factor *ℤ p) ≤ 2 ^ 96 }
     requires inside { place < length row.old }
     requires within { (j : ℕ) → IsInLimit (cell row.old j) }
     ensures same_size { length row.new ≡ length row.old }
@@ -95,9 +107,8 @@ fn lessen<const S: u32>(
         (cell_less S factor.entry (cell row.old place) p.entry ≡ None)
         (λ u. (y : ℤ) × (cell_less S factor.entry (cell row.old place) p.entry ≡ Some y) × (row.new ≡ slice_set row.old place y)) }
 {
-    let Some(number) = cell_less(factor, at(row.as_slice(), place), p) else {
-        return None;
-    };
+    let taken = product(factor, p, is_small)?;
+    let number = less(at(row.as_slice(), place), taken)?;
     let _ = number.units();
     row.put(place, number);
     Some(())
@@ -109,15 +120,17 @@ fn lessen_at<const S: u32>(
     pivot: &[Grid<S>],
     places: &[usize],
     factor: Grid<S>,
+    is_small: bool,
 ) -> Option<()>
     requires scale { IsScale S }
+    requires small { IsTrue is_small → (k : ℕ) → unsigned_abs (factor *ℤ cell pivot.now k) ≤ 2 ^ 96 }
     requires row { IsRow (length pivot.now) row.old }
     requires inside { All (λ k. k < length pivot.now) places.now }
     ensures row { IsRow (length pivot.now) row.new }
     ensures value { MatchOption result (less_at S factor.entry pivot.now places.now row.old ≡ None) (λ u. less_at S factor.entry pivot.now places.now row.old ≡ Some row.new) }
 {
     for i in 0..places.len() {
-        match lessen(row, places[i], factor, at(pivot, places[i])) {
+        match lessen(row, places[i], factor, at(pivot, places[i]), is_small) {
             None => return None,
             Some(()) => (),
         }
@@ -125,20 +138,31 @@ fn lessen_at<const S: u32>(
     Some(())
 }
 
+/// Whether a number times each number of a row is small: the greatest product bounds all.
+fn is_small<const S: u32>(factor: Grid<S>, row: &[Grid<S>], top: u64) -> bool
+    requires { top ≡ greatest_cell row.now }
+    ensures value { result ≡ nat_le (unsigned_abs factor.entry * greatest_cell row.now) (2 ^ 96) }
+    ensures small { IsTrue result → (k : ℕ) → unsigned_abs (factor.entry *ℤ cell row.now k) ≤ 2 ^ 96 }
+{
+    factor.units().unsigned_abs() as u128 * top as u128 <= 1 << 96
+}
+
 /// Takes factor times the pivot's row from a row. Where that is 0 nothing is computed.
 fn subtract<const S: u32>(
     row: &mut Items<Grid<S>>,
     pivot: &[Grid<S>],
     filled: &[usize],
+    top: u64,
     factor: Grid<S>,
 ) -> Option<()>
     requires scale { IsScale S }
     requires row { IsRow (length pivot.now) row.old }
     requires filled { filled.now ≡ filled_places pivot.now }
+    requires top { top ≡ greatest_cell pivot.now }
     ensures row { IsRow (length pivot.now) row.new }
     ensures value { MatchOption result (row_less S factor.entry row.old pivot.now ≡ None) (λ u. row_less S factor.entry row.old pivot.now ≡ Some row.new) }
 {
-    match lessen_at(row, pivot, filled, factor) {
+    match lessen_at(row, pivot, filled, factor, is_small(factor, pivot, top)) {
         None => None,
         Some(()) => Some(()),
     }
@@ -149,12 +173,16 @@ fn clear<const S: u32>(
     row: &mut Items<Grid<S>>,
     pivot: &[Grid<S>],
     filled: &[usize],
+    top: u64,
     column: usize,
+    divisor: &Divisor<S>,
 ) -> Option<()>
     requires scale { IsScale S }
     requires row { IsRow (length pivot.now) row.old }
     requires filled { filled.now ≡ filled_places pivot.now }
+    requires top { top ≡ greatest_cell pivot.now }
     requires column_in { column < length pivot.now }
+    requires divisor { divisor.now ≡ cell pivot.now column }
     requires not_zero { cell pivot.now column ≢ pos 0 }
     ensures row { IsRow (length pivot.now) row.new }
     ensures value { MatchOption result (cleared S column pivot.now row.old ≡ None) (λ u. cleared S column pivot.now row.old ≡ Some row.new) }
@@ -163,8 +191,8 @@ fn clear<const S: u32>(
     if number == Grid::zero() {
         return Some(());
     }
-    let factor = rdiv(number, at(pivot, column))?;
-    subtract(row, pivot, filled, factor)?;
+    let factor = divisor.quotient(number)?;
+    subtract(row, pivot, filled, top, factor)?;
     row.put(column, Grid::zero());
     Some(())
 }
@@ -186,9 +214,11 @@ pub(crate) fn clear_others<const S: u32>(
     ensures count { length rows.new.items ≡ length rows.old.items }
     ensures value { MatchOption result (pivoted S place column pivot.now 0 rows.old.items ≡ None) (λ u. pivoted S place column pivot.now 0 rows.old.items ≡ Some rows.new.items) }
 {
+    let top = greatest(pivot);
+    let divisor = Divisor::new(at(pivot, column));
     for i in 0..rows.len() {
         if i != place {
-            match clear(&mut rows[i], pivot, filled, column) {
+            match clear(&mut rows[i], pivot, filled, top, column, &divisor) {
                 None => return None,
                 Some(()) => (),
             }
