@@ -1,6 +1,6 @@
 ghost use Rattle.std.specs.List.{All};
-ghost use Rattle.std.specs.Prelude.{◌≡◌, ◌≢◌, ℕ, ℤ, pos, ◌-ℤ◌, ◌*ℤ◌, ◌^◌, ◌++◌, ◌∷◌, [], ◌*◌, ◌<◌, ◌≤◌, nat_le, length, get_or, slice_set, Some, None, IsTrue, MatchOption, MatchResult, if◌then◌else◌, unsigned_abs};
-ghost use Rattle.sk_num.specs.Limit.{IsInLimit, grid_of};
+ghost use Rattle.std.specs.Prelude.{◌≡◌, ◌≢◌, ℕ, ℤ, pos, ◌*ℤ◌, ◌^◌, ◌++◌, ◌∷◌, [], ◌*◌, ◌<◌, ◌≤◌, nat_le, length, slice_set, Some, None, IsTrue, MatchOption, MatchResult, if◌then◌else◌, unsigned_abs};
+ghost use Rattle.sk_num.specs.Limit.{IsInLimit};
 ghost use Rattle.sk_num.specs.Rounding.{rounded_product};
 ghost use Rattle.sk_num.specs.Scale.{IsScale};
 ghost use Rattle.sk_elim.specs.Elimination.{cell, cell_less, row_less, cleared, pivoted, greatest_cell};
@@ -11,13 +11,7 @@ ghost use Rattle.sk_elim.specs.declared.fault.ElimFault.TheVariants.{NoMemory};
 use crate::fault::ElimFault;
 use sk_num::{Divisor, Grid, Items, rmul, rmul_small};
 use std::alloc::Global;
-
-/// The difference, none where it passes the limit.
-fn less<const S: u32>(a: Grid<S>, b: Grid<S>) -> Option<Grid<S>>
-    ensures { result ≡ grid_of (a.entry -ℤ b.entry) }
-{
-    Grid::from_units(a.units().checked_sub(b.units())?)
-}
+use std::mem;
 
 /// The number at a place of a row.
 pub(crate) fn at<const S: u32>(row: &[Grid<S>], k: usize) -> Grid<S>
@@ -108,7 +102,7 @@ fn lessen<const S: u32>(
         (λ u. (y : ℤ) × (cell_less S factor.entry (cell row.old place) p.entry ≡ Some y) × (row.new ≡ slice_set row.old place y)) }
 {
     let taken = product(factor, p, is_small)?;
-    let number = less(at(row.as_slice(), place), taken)?;
+    let number = at(row.as_slice(), place).checked_sub(taken)?;
     let _ = number.units();
     row.put(place, number);
     Some(())
@@ -199,6 +193,7 @@ fn clear<const S: u32>(
 
 /// Clears every other row in the column by the row of the pivot.
 pub(crate) fn clear_others<const S: u32>(
+    alloc: Global,
     rows: &mut Vec<Items<Grid<S>>>,
     pivot: &[Grid<S>],
     filled: &[usize],
@@ -218,10 +213,10 @@ pub(crate) fn clear_others<const S: u32>(
     let divisor = Divisor::new(at(pivot, column));
     for i in 0..rows.len() {
         if i != place {
-            match clear(&mut rows[i], pivot, filled, top, column, &divisor) {
-                None => return None,
-                Some(()) => (),
-            }
+            let mut row = mem::replace(&mut rows[i], Items::of(Vec::new(alloc)));
+            let done = clear(&mut row, pivot, filled, top, column, &divisor);
+            rows[i] = row;
+            done?;
         }
     }
     Some(())

@@ -1,5 +1,5 @@
 ghost use Rattle.std.specs.List.{All, range_with_len};
-ghost use Rattle.std.specs.Prelude.{◌≡◌, ◌≢◌, ℕ, pos, ◌*◌, ◌^◌, ◌<◌, ◌≤◌, ◌+◌, length, get_or, nat_lt, if◌then◌else◌, [], Some, None, Ok, MatchResult, IfSome, unsigned_abs};
+ghost use Rattle.std.specs.Prelude.{◌≡◌, ◌≢◌, pos, ◌*◌, ◌<◌, ◌≤◌, length, get_or, nat_lt, if◌then◌else◌, [], Some, None, Ok, MatchResult, IfSome, unsigned_abs};
 ghost use Rattle.sk_num.specs.Scale.{IsScale};
 ghost use Rattle.sk_elim.specs.Elimination.{cell, cell_at, is_flat, or_past_limit, pivoted, pivot_taken, forced_step, steps, has_column, has_row, better_column, best_column, column_taken, free_step};
 ghost use Rattle.sk_elim.specs.Rows.{IsRow};
@@ -44,7 +44,7 @@ fn pivot_on<const S: u32>(
         Err(e) => return Err(e),
         Ok(filled) => filled,
     };
-    match clear_others(rows, pivot.as_slice(), &filled, place, column) {
+    match clear_others(alloc, rows, pivot.as_slice(), &filled, place, column) {
         None => Err(ElimFault::PastLimit),
         Some(()) => Ok(()),
     }

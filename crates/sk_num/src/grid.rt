@@ -74,6 +74,22 @@ impl<const S: u32> Grid<S> {
         }
         Some(Grid::small(units))
     }
+
+    /// The sum; None exactly past the limit.
+    pub fn checked_add(self, other: Grid<S>) -> Option<Grid<S>>
+        ensures { result ≡ grid_of (self.entry +ℤ other.entry) }
+    {
+        // one sum wraps, 2^63, and is past the limit as -2^63 too
+        Grid::from_units(self.units().wrapping_add(other.units()))
+    }
+
+    /// The difference; None exactly past the limit.
+    pub fn checked_sub(self, other: Grid<S>) -> Option<Grid<S>>
+        ensures { result ≡ grid_of (self.entry -ℤ other.entry) }
+    {
+        // as in a sum, what wraps is past the limit
+        Grid::from_units(self.units().wrapping_sub(other.units()))
+    }
 }
 
 /// How many units are one.
@@ -119,13 +135,6 @@ impl<const S: u32> Grid<S> {
         ensures fits { unsigned_abs result ≤ 2 ^ 63 }
     {
         self.units() as i128 + other.units() as i128
-    }
-
-    pub(crate) fn minus(self, other: Grid<S>) -> i128
-        ensures value { result ≡ self.entry -ℤ other.entry }
-        ensures fits { unsigned_abs result ≤ 2 ^ 63 }
-    {
-        self.units() as i128 - other.units() as i128
     }
 
     /// In squares of units.

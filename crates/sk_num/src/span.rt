@@ -90,9 +90,9 @@ impl<const S: u32> Span<S> {
         ensures encloses { IfSome result (λ c. (m : ℕ) (x y : ℤ) →
             Encloses S m self.now x → Encloses S m o.now y → Encloses S m c (x +ℤ y)) }
     {
-        let lo = self.lo.plus(o.lo);
-        let hi = self.hi.plus(o.hi);
-        span_between(lo, hi)
+        let lo = self.lo.checked_add(o.lo)?;
+        let hi = self.hi.checked_add(o.hi)?;
+        Some(Span { lo, hi })
     }
 
     /// The exact differences, lower end less upper end and the other way round; None exactly where
@@ -102,9 +102,9 @@ impl<const S: u32> Span<S> {
         ensures encloses { IfSome result (λ c. (m : ℕ) (x y : ℤ) →
             Encloses S m self.now x → Encloses S m o.now y → Encloses S m c (x -ℤ y)) }
     {
-        let lo = self.lo.minus(o.hi);
-        let hi = self.hi.minus(o.lo);
-        span_between(lo, hi)
+        let lo = self.lo.checked_sub(o.hi)?;
+        let hi = self.hi.checked_sub(o.lo)?;
+        Some(Span { lo, hi })
     }
 
     /// The least product of ends rounded down and the greatest rounded up; None exactly where an
@@ -165,8 +165,13 @@ impl<const S: u32> Span<S> {
         ensures greatest { result.1 ≡ int_max (self.now.lo *ℤ k.entry) (self.now.hi *ℤ k.entry) }
         ensures fits { neg_ℤ (pos (2 ^ 124)) ≤ℤ result.1 }
     {
-        let (low, high) = (self.lo.times(k), self.hi.times(k));
-        (low.min(high), low.max(high))
+        let is_falling = k.units() < 0;
+        let (low, high) = if is_falling {
+            (self.hi, self.lo)
+        } else {
+            (self.lo, self.hi)
+        };
+        (low.times(k), high.times(k))
     }
 
     fn least_product(&self, o: &Span<S>) -> i128
