@@ -36,7 +36,7 @@ use Rattle.sk_system.proofs.SystemsWithin.{line-three, foot-three}
 
 -- ---- one of many numbers
 
-abbrev AllOf : (ℕ → Type 0) → List ℕ → Type 0
+abbrev pub AllOf : (ℕ → Type 0) → List ℕ → Type 0
 AllOf p [] = Unit {0}
 AllOf p (n ∷ ns) = p n × AllOf p ns
 
@@ -44,7 +44,7 @@ split : {X : Type 0} (a b : Bool) → (a || b) ≡ true → (a ≡ true → X) �
 split true b e f g = f refl
 split false b e f g = g e
 
-each-of : (p : ℕ → Type 0) (ns : List ℕ) → AllOf p ns → (k : ℕ) → is_among k ns ≡ true → p k
+pub each-of : (p : ℕ → Type 0) (ns : List ℕ) → AllOf p ns → (k : ℕ) → is_among k ns ≡ true → p k
 each-of p [] h k e = absurd cc
 each-of p (n ∷ ns) h k e = split (k == n) (is_among k ns) e (λ t. subst p (sym (eqb-true k n t)) h.0) (λ t. each-of p ns h.1 k t)
 

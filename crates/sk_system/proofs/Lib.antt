@@ -19,3 +19,4 @@ pub mod AlikeEntities
 pub mod AlikeParts
 pub mod Unmarked
 pub mod AlikeSystems
+pub mod FlatRows

@@ -1,5 +1,6 @@
 pub mod ByHandle
 pub mod ConstraintParts
+pub mod FlatPoints
 pub mod Contacts
 pub mod Formulas
 pub mod OwnRows

@@ -17,6 +17,7 @@ ghost use Rattle.sk_types.specs.Lists.{is_among};
 ghost use Rattle.sk_types.specs.Needs.{named};
 ghost use Rattle.sk_system.specs.ByHandle.{point_by};
 ghost use Rattle.sk_system.specs.ConstraintParts.{constraint_parts};
+ghost use Rattle.sk_system.specs.FlatPoints.{is_flat, flat_kinds};
 ghost use Rattle.sk_system.specs.Contacts.{face_by, contact_in};
 ghost use Rattle.sk_system.specs.Formulas.{constraint_formula, formulas_from};
 ghost use Rattle.sk_system.specs.Sizes.{auxiliaries_in, cosines_in};
@@ -26,7 +27,7 @@ ghost use Rattle.sk_system.specs.declared.formulas.NamedFormula.{NamedFormula as
 use crate::NoMemory;
 use crate::by_handle::point_by;
 use crate::contacts::{contact_in, face_by, has_cubic};
-use crate::parts::constraint_parts;
+use crate::parts::{constraint_parts, flat_parts};
 use sk_expr::Formula;
 use sk_geom::Source;
 use sk_types::{Constraint, ConstraintId, constraint_kind as kind};
@@ -41,6 +42,28 @@ pub struct NamedFormula<const S: u32> {
     pub formula: Formula<S>,
 }
 
+/// Whether a number is that of a constraint whose rows take nothing but points, in the workplane where there is one.
+fn is_of_points_alone(number: u16) -> bool
+    ensures { result ≡ is_among number flat_kinds }
+{
+    matches!(
+        number,
+        kind::POINTS_COINCIDENT
+            | kind::POINT_POINT_DISTANCE
+            | kind::SYMMETRIC_HORIZONTAL
+            | kind::SYMMETRIC_VERTICAL
+    )
+}
+
+/// Whether the rows of a constraint are made of points in its workplane alone.
+#[tactic(auto, unfolding(crate::specs::FlatPoints::is_flat))]
+fn is_flat<const S: u32>(c: &Constraint<S>) -> bool
+    ensures { result ≡ is_flat c.now }
+{
+    c.workplane.0 != 0 && is_of_points_alone(c.kind)
+}
+
+#[tactic(auto, using(crate::proofs::FlatRows::flat_rows))]
 fn of_points<const S: u32>(
     alloc: Global,
     source: &Source<'_, S>,
@@ -51,7 +74,11 @@ fn of_points<const S: u32>(
     ensures formula { IfOk result (λ f. formula_of f ≡ point_formula S c.now (constraint_parts (source_of source.now) c.now)) }
     ensures small { IfOk result (λ f. IsSmall f) }
 {
-    let parts = constraint_parts(alloc, source, c)?;
+    let parts = if is_flat(c) {
+        flat_parts(alloc, source, c)?
+    } else {
+        constraint_parts(alloc, source, c)?
+    };
     let formula = sk_eq_points::formula(alloc, c, &parts)?;
     Ok(formula)
 }

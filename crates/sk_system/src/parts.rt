@@ -1,7 +1,7 @@
 // The needed parts of a constraint.
 #![tactic(auto)]
 
-ghost use Rattle.std.specs.Prelude.{◌≡◌, ◌++◌, not, map, option_map, option_to_list, IfOk};
+ghost use Rattle.std.specs.Prelude.{◌≡◌, ◌++◌, not, map, option_to_list, IfOk};
 ghost use Rattle.std.specs.List.{filter};
 ghost use Rattle.sk_num.specs.Scale.{IsScale};
 ghost use Rattle.sk_types.specs.declared.entity_kind.TheConstants as entity_kinds;
@@ -9,6 +9,7 @@ ghost use Rattle.sk_expr.specs.PartViews.{v3_of, pair_of, pairs_of, frame_of, ax
 ghost use Rattle.sk_geom.specs.Sources.{IsSource};
 ghost use Rattle.sk_geom.specs.Views.{source_of};
 ghost use Rattle.sk_system.specs.ByHandle.{flat_by, frame_by, axes_by, is_normal_by};
+ghost use Rattle.sk_system.specs.FlatPoints.{flat_alone};
 ghost use Rattle.sk_system.specs.ConstraintParts.{needed, workplane_of, space_points, flat_points, points_plane, line_by, round_plane, round_by, constraint_parts};
 
 use crate::NoMemory;
@@ -402,5 +403,28 @@ pub(crate) fn constraint_parts<const S: u32>(
         axes,
         radii,
         is_normal,
+    })
+}
+
+/// Of the parts of a constraint its points in the workplane alone.
+#[tactic(auto, using(crate::proofs::SameParts::same_parts), unfolding(sk_expr::specs::PartViews::parts_of))]
+pub(crate) fn flat_parts<const S: u32>(
+    alloc: Global,
+    source: &Source<'_, S>,
+    c: &Constraint<S>,
+) -> Result<ConstraintParts<S>, NoMemory>
+    requires scale { IsScale S }
+    requires source { IsSource (source_of source.now) }
+    ensures { IfOk result (λ m. parts_of m ≡ flat_alone (constraint_parts (source_of source.now) c.now)) }
+{
+    let flat_points = flat_points_for(alloc, source, c)?;
+    Ok(ConstraintParts {
+        points: Items::of(Vec::new(alloc)),
+        flat_points,
+        lines: Items::of(Vec::new(alloc)),
+        frames: Items::of(Vec::new(alloc)),
+        axes: Items::of(Vec::new(alloc)),
+        radii: Items::of(Vec::new(alloc)),
+        is_normal: [false; 4],
     })
 }
