@@ -6,20 +6,20 @@ ghost use Rattle.sk_num.specs.Scale.{IsScale};
 ghost use Rattle.sk_matrix.specs.Cells.{number_cell, span_cell};
 ghost use Rattle.sk_matrix.specs.Matrix.{points, product, one_less, is_whole};
 ghost use Rattle.sk_expr.specs.declared.fault.VisitFault.TheVariants.{PastLimit};
-ghost use Rattle.sk_matrix.specs.declared.products.VisitFault2.TheVariants.{PastLimit as ProductPastLimit};
+ghost use Rattle.sk_matrix.specs.declared.products.ProductFault.TheVariants.{PastLimit as ProductPastLimit};
 
 use sk_expr::VisitFault;
-use sk_matrix::{VisitFault2, half, one_less, product, product_right, row_sums, within_radii};
+use sk_matrix::{ProductFault, half, one_less, product, product_right, row_sums, within_radii};
 use sk_num::{Grid, Items, Mat, SpanMat};
 use std::alloc::Global;
 
 /// A product's fault as a system's.
-pub(crate) fn fault_of(fault: VisitFault2) -> VisitFault
+pub(crate) fn fault_of(fault: ProductFault) -> VisitFault
     ensures { result ≡ PastLimit → fault ≡ ProductPastLimit }
 {
     match fault {
-        VisitFault2::PastLimit => VisitFault::PastLimit,
-        VisitFault2::NoMemory => VisitFault::NoMemory,
+        ProductFault::PastLimit => VisitFault::PastLimit,
+        ProductFault::NoMemory => VisitFault::NoMemory,
     }
 }
 

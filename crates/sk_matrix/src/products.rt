@@ -1,11 +1,11 @@
 ghost use Rattle.std.specs.List.{All};
-ghost use Rattle.std.specs.Prelude.{◌≡◌, ◌↔◌, IsTrue, [], ◌∷◌, ℕ, pos, ◌+◌, ◌*◌, ◌<◌, length, get_or, slice_set, replicate, Some, None, map, MatchOption, MatchResult, IfOk, ◌++◌, if◌then◌else◌};
+ghost use Rattle.std.specs.Prelude.{◌≡◌, [], ◌∷◌, ℕ, pos, ◌+◌, ◌*◌, ◌<◌, length, slice_set, Some, None, map, MatchOption, MatchResult, ◌++◌, if◌then◌else◌};
 ghost use Rattle.sk_num.specs.Scale.{IsScale};
 ghost use Rattle.sk_num.specs.Ends.{Ends, point, span_add, span_mul};
 ghost use Rattle.sk_matrix.specs.Cells.{AreCells, PassesLimit, listed, table, number_cell, span_cell};
 ghost use Rattle.sk_matrix.specs.Matrix.{of_both, points, product};
 ghost use Rattle.sk_matrix.specs.Sparse.{is_nought, nonzero_columns, sum_at, added};
-ghost use Rattle.sk_matrix.specs.declared.products.VisitFault2.TheVariants.{PastLimit, NoMemory};
+ghost use Rattle.sk_matrix.specs.declared.products.ProductFault.TheVariants.{PastLimit, NoMemory};
 
 use crate::reading::{number_cell, span_cell};
 use sk_num::{Grid, Items, Mat, OfGrid, Span, SpanMat};
@@ -13,7 +13,7 @@ use std::alloc::Global;
 
 /// Why a product isn't there.
 #[derive(Clone, Copy, Debug, PartialEq, Eq)]
-pub enum VisitFault2 {
+pub enum ProductFault {
     /// A product of two cells or a sum of them passes the limit.
     PastLimit,
     /// There was no memory.
@@ -27,7 +27,7 @@ pub fn product<const S: u32>(
     alloc: Global,
     a: &Mat<S>,
     b: &SpanMat<S>,
-) -> Result<SpanMat<S>, VisitFault2>
+) -> Result<SpanMat<S>, ProductFault>
     requires scale { IsScale S }
     requires a_size { length a.now.cells ≡ a.now.rows * a.now.cols }
     requires b_size { length b.now.cells ≡ b.now.rows * b.now.cols }
@@ -48,7 +48,7 @@ pub fn product_right<const S: u32>(
     alloc: Global,
     a: &SpanMat<S>,
     b: &Mat<S>,
-) -> Result<SpanMat<S>, VisitFault2>
+) -> Result<SpanMat<S>, ProductFault>
     requires scale { IsScale S }
     requires a_size { length a.now.cells ≡ a.now.rows * a.now.cols }
     requires b_size { length b.now.cells ≡ b.now.rows * b.now.cols }
@@ -63,7 +63,7 @@ pub fn product_right<const S: u32>(
 }
 
 /// A matrix of single numbers as one of spans.
-fn spans_of<const S: u32>(alloc: Global, m: &Mat<S>) -> Result<SpanMat<S>, VisitFault2>
+fn spans_of<const S: u32>(alloc: Global, m: &Mat<S>) -> Result<SpanMat<S>, ProductFault>
     ensures { MatchResult result
         (λ p. (p.rows ≡ m.now.rows) × (p.cols ≡ m.now.cols) × (p.cells ≡ map point m.now.cells))
         (λ e. e ≡ NoMemory) }
@@ -82,11 +82,11 @@ fn spans_of<const S: u32>(alloc: Global, m: &Mat<S>) -> Result<SpanMat<S>, Visit
     })
 }
 
-fn put_cell<const S: u32>(cells: &mut Vec<Span<S>>, cell: &Span<S>) -> Result<(), VisitFault2>
+fn put_cell<const S: u32>(cells: &mut Vec<Span<S>>, cell: &Span<S>) -> Result<(), ProductFault>
     ensures { MatchResult result (λ u. cells.new.items ≡ cells.old.items ++ (cell.now ∷ [])) (λ e. e ≡ NoMemory) }
 {
     if cells.push(*cell).is_err() {
-        return Err(VisitFault2::NoMemory);
+        return Err(ProductFault::NoMemory);
     }
     Ok(())
 }
@@ -95,7 +95,7 @@ fn span_product<const S: u32>(
     alloc: Global,
     a: &SpanMat<S>,
     b: &SpanMat<S>,
-) -> Result<SpanMat<S>, VisitFault2>
+) -> Result<SpanMat<S>, ProductFault>
     requires scale { IsScale S }
     requires a_size { length a.now.cells ≡ a.now.rows * a.now.cols }
     requires b_size { length b.now.cells ≡ b.now.rows * b.now.cols }
@@ -128,12 +128,12 @@ fn is_nought<const S: u32>(e: &Span<S>) -> bool
     e.lo().units().unsigned_abs() == 0 && e.hi().units().unsigned_abs() == 0
 }
 
-fn keep_if(columns: &mut Vec<u16>, column: u16, wanted: bool) -> Result<(), VisitFault2>
+fn keep_if(columns: &mut Vec<u16>, column: u16, wanted: bool) -> Result<(), ProductFault>
     ensures { MatchResult result (λ u. columns.new.items ≡ columns.old.items ++ (if wanted then column ∷ [] else [])) (λ e. e ≡ NoMemory) }
 {
     if wanted {
         if columns.push(column).is_err() {
-            return Err(VisitFault2::NoMemory);
+            return Err(ProductFault::NoMemory);
         }
     }
     Ok(())
@@ -144,7 +144,7 @@ fn row_columns<const S: u32>(
     alloc: Global,
     m: &SpanMat<S>,
     row: u16,
-) -> Result<Items<u16>, VisitFault2>
+) -> Result<Items<u16>, ProductFault>
     requires size { length m.now.cells ≡ m.now.rows * m.now.cols }
     requires row_in { row < m.now.rows }
     ensures { MatchResult result (λ cs. cs ≡ nonzero_columns m.now.cols (span_cell m.now.cols m.now.cells row)) (λ e. e ≡ NoMemory) }
@@ -160,17 +160,17 @@ fn row_columns<const S: u32>(
     Ok(Items::of(columns))
 }
 
-fn keep_row(rows: &mut Vec<Items<u16>>, row: Items<u16>) -> Result<(), VisitFault2>
+fn keep_row(rows: &mut Vec<Items<u16>>, row: Items<u16>) -> Result<(), ProductFault>
     ensures { MatchResult result (λ u. rows.new.items ≡ rows.old.items ++ (row ∷ [])) (λ e. e ≡ NoMemory) }
 {
     if rows.push(row).is_err() {
-        return Err(VisitFault2::NoMemory);
+        return Err(ProductFault::NoMemory);
     }
     Ok(())
 }
 
 /// The columns of each row whose cells aren't 0.
-fn all_columns<const S: u32>(alloc: Global, m: &SpanMat<S>) -> Result<Vec<Items<u16>>, VisitFault2>
+fn all_columns<const S: u32>(alloc: Global, m: &SpanMat<S>) -> Result<Vec<Items<u16>>, ProductFault>
     requires { length m.now.cells ≡ m.now.rows * m.now.cols }
     ensures { MatchResult result (λ rows. rows.items ≡ listed m.now.rows (λ i. nonzero_columns m.now.cols (span_cell m.now.cols m.now.cells i))) (λ e. e ≡ NoMemory) }
 {
@@ -189,11 +189,11 @@ fn all_columns<const S: u32>(alloc: Global, m: &SpanMat<S>) -> Result<Vec<Items<
 }
 
 /// A row of `n` cells that are 0.
-fn zeros<const S: u32>(alloc: Global, n: u16) -> Result<Items<Span<S>>, VisitFault2>
+fn zeros<const S: u32>(alloc: Global, n: u16) -> Result<Items<Span<S>>, ProductFault>
     ensures { MatchResult result (λ us. (length us ≡ n) × ((k : ℕ) → k < n → sum_at us k ≡ point (pos 0))) (λ e. e ≡ NoMemory) }
 {
     match vec![in alloc; Span::of_grid(Grid::zero()); n as usize] {
-        Err(_) => Err(VisitFault2::NoMemory),
+        Err(_) => Err(ProductFault::NoMemory),
         Ok(cells) => Ok(Items::of(cells)),
     }
 }
@@ -287,7 +287,7 @@ fn row_sums_of<const S: u32>(
     row: u16,
     b: &SpanMat<S>,
     columns: &[Items<u16>],
-) -> Result<Items<Span<S>>, VisitFault2>
+) -> Result<Items<Span<S>>, ProductFault>
     requires scale { IsScale S }
     requires a_size { length a.now.cells ≡ a.now.rows * a.now.cols }
     requires b_size { length b.now.cells ≡ b.now.rows * b.now.cols }
@@ -311,7 +311,7 @@ fn row_sums_of<const S: u32>(
             inner,
             columns[inner as usize].as_slice(),
         ) {
-            None => return Err(VisitFault2::PastLimit),
+            None => return Err(ProductFault::PastLimit),
             Some(()) => (),
         }
     }
@@ -326,7 +326,7 @@ fn put_row<const S: u32>(
     b: &SpanMat<S>,
     columns: &[Items<u16>],
     cells: &mut Vec<Span<S>>,
-) -> Result<(), VisitFault2>
+) -> Result<(), ProductFault>
     requires scale { IsScale S }
     requires a_size { length a.now.cells ≡ a.now.rows * a.now.cols }
     requires b_size { length b.now.cells ≡ b.now.rows * b.now.cols }

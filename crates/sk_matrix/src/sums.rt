@@ -1,6 +1,6 @@
-ghost use Rattle.std.specs.Prelude.{◌≡◌, ℕ, pos, ◌+◌, ◌-◌, ◌*◌, ◌<◌, ◌≤◌, ◌^◌, length, get_or, nat_le, unsigned_abs, ◌&&◌};
+ghost use Rattle.std.specs.Prelude.{◌≡◌, pos, ◌+◌, ◌-◌, ◌*◌, ◌<◌, ◌≤◌, ◌^◌, length, get_or, nat_le, unsigned_abs, ◌&&◌};
 ghost use Rattle.std.specs.List.{All};
-ghost use Rattle.sk_num.specs.Sums.{total_to, top_to};
+ghost use Rattle.sk_num.specs.Sums.{total_to};
 ghost use Rattle.sk_num.specs.Scale.{IsScale};
 ghost use Rattle.sk_matrix.specs.Cells.{number_cell, span_cell};
 ghost use Rattle.sk_matrix.specs.Matrix.{mag_or, row_sum, row_sum_plain, row_sums, row_sums_plain, all_to};
