@@ -1,11 +1,10 @@
 // What a command does with a model that is opened and regenerated.
-ghost use Rattle.std.specs.Prelude.{◌≡◌, ◌++◌, ◌∷◌, [], map, length, Ok, Some, None, IfOk, OnOk, codes};
-ghost use Rattle.std.specs.List.{list_all};
+ghost use Rattle.std.specs.Prelude.{◌≡◌, map, Ok, Some, None, IfOk, codes};
 ghost use Rattle.std.specs.Option.{option_map};
 ghost use Rattle.sk_num.specs.Scale.{IsScale};
 ghost use Rattle.sk_records.specs.Written.{bytes_of};
 ghost use Rattle.sk_dxf.specs.Drawing.{drawing};
-ghost use Rattle.sk_report.specs.ReportText.{group_text as block_text, last_line as last_text, is_certified as is_certified_by};
+ghost use Rattle.sk_report.specs.ReportText.{group_text as block_text, last_line as last_text};
 ghost use Rattle.sk_app.specs.Answer.{report_pieces as pieces_of, are_certified as are_all_certified, answered, done_status, drawn as drawn_work, reported as reported_work, work_for};
 ghost use Rattle.sk_app.specs.Command.{Make as Made};
 ghost use Rattle.sk_app.specs.Lent.{command as command_in, drawn_in, file_in, shown, texts};

@@ -1,6 +1,6 @@
 // The entities of a drawing in a workplane.
 
-ghost use Rattle.std.specs.Prelude.{◌≡◌, ◌≤◌, ◌∷◌, [], IfOk};
+ghost use Rattle.std.specs.Prelude.{◌≡◌, ◌≤◌, IfOk};
 ghost use Rattle.sk_copy.specs.Copies.{group_entity, plane_entities, plane_numbers};
 
 use crate::NoMemory;

@@ -1,6 +1,5 @@
 ghost use Rattle.std.specs.List.{All, filter, range_with_len};
-ghost use Rattle.std.specs.Prelude.{◌≡◌, ◌≢◌, ℕ, pos, ◌*◌, ◌<◌, ◌≤◌, ◌+◌, ◌++◌, ◌∷◌, [], map, length, get_or, option_map, Some, Ok, MatchResult, if◌then◌else◌, not};
-ghost use Rattle.sk_num.specs.Ends.{mid};
+ghost use Rattle.std.specs.Prelude.{◌≡◌, ◌≢◌, pos, ◌*◌, ◌<◌, ◌≤◌, ◌+◌, ◌++◌, ◌∷◌, [], length, option_map, Some, Ok, MatchResult, if◌then◌else◌, not};
 ghost use Rattle.sk_num.specs.Scale.{IsScale};
 ghost use Rattle.sk_elim.specs.Elimination.{Elimination, cell_at, has_column, has_row, or_past_limit, pivot_row, inverse_row, finished, eliminate};
 ghost use Rattle.sk_num.specs.Each.{each_some};

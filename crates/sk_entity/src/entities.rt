@@ -1,8 +1,7 @@
 // The entities of a request.
 
 ghost use Rattle.std.specs.Prelude.{◌≡◌, ◌≤◌, ◌<◌, ℕ, IfOk, length};
-ghost use Rattle.sk_types.specs.Lists.{each_below};
-ghost use Rattle.sk_entity.specs.Requests.{bare, point_kind, point_of, normal_of, distance_of, curve_of, request_entities, entity_item, param_item, part_count};
+ghost use Rattle.sk_entity.specs.Requests.{bare, point_kind, point_of, normal_of, curve_of, request_entities, param_item, part_count};
 
 use crate::NoMemory;
 use crate::shape::{Shape, shape_of};

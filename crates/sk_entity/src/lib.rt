@@ -1,8 +1,6 @@
 //! What requests make: the entities and the parameters of each kind.
 #![tactic(auto)]
 
-ghost use Rattle.std.specs.Prelude.{◌≡◌};
-
 mod entities;
 mod params;
 mod shape;

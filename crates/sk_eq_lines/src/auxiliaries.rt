@@ -1,6 +1,6 @@
 #![tactic(auto, unfolding(crate::specs::LineRows::foot, crate::specs::LineRows::from_foot, crate::specs::LineRows::side_of, crate::specs::LineRows::height, crate::specs::LineRows::cosine_of))]
 
-ghost use Rattle.std.specs.Prelude.{◌≡◌, ◌<◌, ◌≤◌, ◌+◌, ◌++◌, length, IfOk};
+ghost use Rattle.std.specs.Prelude.{◌≡◌, ◌<◌, ◌≤◌, ◌+◌, length, IfOk};
 ghost use Rattle.sk_expr.specs.Poly.{unknown};
 ghost use Rattle.sk_expr.specs.Trees.{poly_of};
 ghost use Rattle.sk_expr.specs.VectorViews.{vector_of};

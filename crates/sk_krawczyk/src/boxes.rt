@@ -1,5 +1,5 @@
 ghost use Rattle.std.specs.List.{All};
-ghost use Rattle.std.specs.Prelude.{◌≡◌, ◌≤◌, ◌<◌, ◌-◌, ◌*◌, ◌^◌, pos, length, map, slice_get, get_or, nat_le, unsigned_abs, Some, true, false, ◌&&◌, MatchResult};
+ghost use Rattle.std.specs.Prelude.{◌≡◌, ◌≤◌, ◌<◌, ◌-◌, ◌*◌, ◌^◌, pos, length, map, slice_get, get_or, nat_le, unsigned_abs, Some, true, false, MatchResult};
 ghost use Rattle.sk_num.specs.Scale.{IsScale};
 ghost use Rattle.sk_expr.specs.Visits.{system_of, IsTestable};
 ghost use Rattle.sk_expr.specs.declared.fault.VisitFault.TheVariants.{PastLimit, NoMemory};

@@ -1,10 +1,9 @@
 ghost use Rattle.std.specs.List.{All, list_all};
-ghost use Rattle.std.specs.Prelude.{◌≡◌, ◌≤◌, ◌<◌, ◌^◌, pos, ◌+ℤ◌, ◌-ℤ◌, length, get_or, unsigned_abs, MatchResult, true, false};
+ghost use Rattle.std.specs.Prelude.{◌≡◌, ◌≤◌, ◌<◌, ◌^◌, pos, ◌+ℤ◌, ◌-ℤ◌, length, get_or, MatchResult, true, false};
 ghost use Rattle.sk_num.specs.Ends.{span_between};
 ghost use Rattle.sk_expr.specs.declared.fault.VisitFault.TheVariants.{PastLimit};
-ghost use Rattle.sk_krawczyk.specs.Box.{at_column};
 ghost use Rattle.std.specs.Int.{is_positive};
-ghost use Rattle.sk_krawczyk.specs.StoredBox.{is_length_positive, reach_of, ends_at, are_ends_in, box_from};
+ghost use Rattle.sk_krawczyk.specs.StoredBox.{is_length_positive, reach_of, are_ends_in, box_from};
 
 use crate::radii::size_at;
 use sk_expr::VisitFault;

@@ -1,5 +1,5 @@
 ghost use Rattle.std.specs.List.{All};
-ghost use Rattle.std.specs.Prelude.{◌≡◌, ◌<◌, ◌^◌, ◌++◌, ◌∷◌, [], length, map, Some, None, MatchResult};
+ghost use Rattle.std.specs.Prelude.{◌≡◌, ◌<◌, ◌^◌, ◌++◌, length, map, Some, None, MatchResult};
 ghost use Rattle.sk_num.specs.Scale.{IsScale};
 ghost use Rattle.sk_num.specs.Each.{each_some};
 ghost use Rattle.sk_expr.specs.Tapes.{IsTape, plain_tape, root_trees};

@@ -1,4 +1,5 @@
-// Changes of a model's parts: each leaves all parts as they were where memory is wanting.
+// Changes of a model's parts. Where memory is wanting all parts stay as they were, but in what takes
+// the book over.
 
 ghost use Rattle.std.specs.Prelude.{◌≡◌, ◌<◌, ◌^◌, ◌++◌, ◌∷◌, [], length, map, nat_eq, nat_lt, true, false, Some, OnOk, OnErr, IfOk};
 ghost use Rattle.std.specs.List.{All, IsDistinct, position};

@@ -1,6 +1,6 @@
 // The values of one record.
 
-ghost use Rattle.std.specs.Prelude.{◌≡◌, ◌<◌, length, map, pos, unwrap_or};
+ghost use Rattle.std.specs.Prelude.{◌≡◌, ◌<◌, length, map, unwrap_or};
 ghost use Rattle.std.specs.Option.{option_copied};
 ghost use Rattle.sk_num.specs.Scale.{IsScale};
 ghost use Rattle.sk_records.specs.Answers.{rows_in};

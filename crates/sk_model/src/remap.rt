@@ -1,6 +1,6 @@
 // The numbers of a group's copies.
 
-ghost use Rattle.std.specs.Prelude.{◌≡◌, List, Some, None, if◌then◌else◌, unwrap_or, IfOk, false};
+ghost use Rattle.std.specs.Prelude.{◌≡◌, Some, None, if◌then◌else◌, unwrap_or, IfOk, false};
 ghost use Rattle.std.specs.List.{list_any};
 ghost use Rattle.sk_records.specs.MapLent.{lent_entry};
 ghost use Rattle.sk_model.specs.Chain.{IsAnswer, seen_in};

@@ -1,7 +1,7 @@
 // What holds of all records together.
 
 ghost use Rattle.std.specs.Prelude.{◌≡◌};
-ghost use Rattle.sk_model.specs.Typed.{whole_fault, missing_of, stray_request, stray_constraint, count_linked, is_first_group, is_reference, is_linked_kind, is_space_kind};
+ghost use Rattle.sk_model.specs.Typed.{whole_fault, missing_of, stray_request, stray_constraint, count_linked, is_first_group, is_reference};
 ghost use Rattle.std.specs.List.{list_any};
 
 use crate::faults::{ModelFault, Reason, What};

@@ -1,6 +1,6 @@
 // Decimal numbers with a point.
 
-ghost use Rattle.std.specs.Prelude.{◌≡◌, ◌+◌, ◌*◌, ◌^◌, ◌≤◌, ◌<◌, ◌++◌, min, length, option_map, option_copied, take, slice_index, IfSome, Option, List, Some, ℕ};
+ghost use Rattle.std.specs.Prelude.{◌≡◌, ◌+◌, ◌*◌, ◌^◌, ◌≤◌, ◌<◌, length, option_map, option_copied, take, slice_index, IfSome, Option, Some, ℕ};
 ghost use Rattle.std.specs.Fmt.{decimal};
 ghost use Rattle.sk_num.specs.Decimals.{decimals_of, at_point, decimal_of, at_most, decimal_text};
 

@@ -1,11 +1,10 @@
 // A short text in the making.
 
-ghost use Rattle.std.specs.Prelude.{◌≡◌, ℕ, ◌+◌, ◌^◌, ◌<◌, ◌≤◌, List, [], ◌∷◌, ◌++◌, length, take, slice_index};
+ghost use Rattle.std.specs.Prelude.{◌≡◌, ℕ, ◌+◌, ◌<◌, ◌≤◌, List, [], ◌∷◌, ◌++◌, length, take, slice_index};
 ghost use Rattle.std.specs.Fmt.{decimal};
 ghost use Rattle.sk_num.specs.Numerals.{padded};
 ghost use Rattle.sk_num.specs.Drafts.{IsDraft};
 ghost use Rattle.sk_num.specs.Decimals.{sign_text};
-ghost use Rattle.std.specs.Prelude.{◌*◌};
 
 use std::marker::Model;
 

@@ -1,4 +1,4 @@
-ghost use Rattle.std.specs.Prelude.{◌≡◌, ◌+◌, ℕ, ℤ, List, length, IfOk, IfSome, Some};
+ghost use Rattle.std.specs.Prelude.{◌≡◌, ◌+◌, ℤ, List, length, IfOk, IfSome, Some};
 ghost use Rattle.sk_num.specs.Scale.{IsScale};
 ghost use Rattle.sk_krawczyk.specs.Answers.{IsSoundAt, outcome_at, names_at};
 ghost use Rattle.sk_solve.specs.Search.{searched, verdict_over};

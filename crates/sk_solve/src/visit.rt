@@ -1,5 +1,5 @@
 // One point of a search.
-ghost use Rattle.std.specs.Prelude.{◌≡◌, ℕ, List, length, IfOk};
+ghost use Rattle.std.specs.Prelude.{◌≡◌, length, IfOk};
 ghost use Rattle.sk_num.specs.Scale.{IsScale};
 ghost use Rattle.sk_krawczyk.specs.Answers.{outcome_at, names_at};
 ghost use Rattle.sk_solve.specs.Results.{IsVisit, VisitProved};

@@ -11,7 +11,7 @@ ghost use Rattle.sk_expr.specs.PartViews.{v3_of, pair_of, frame_of, axes_of};
 ghost use Rattle.sk_geom.specs.Sources.{IsSource, three_numbers, four_numbers};
 ghost use Rattle.sk_geom.specs.EntityTrees.{of_entity, normal_tree};
 ghost use Rattle.sk_geom.specs.Views.{source_of};
-ghost use Rattle.sk_system.specs.ByHandle.{entity_by, point_by, flat_by, frame_or_none, frame_by, axes_by, distance_by, points_of, normal_of, distance_of, end_by, is_normal_by, is_arc_by, is_cubic_by, normal_plane};
+ghost use Rattle.sk_system.specs.ByHandle.{entity_by, point_by, flat_by, frame_by, axes_by, distance_by, points_of, normal_of, distance_of, end_by, is_normal_by, is_arc_by, is_cubic_by, normal_plane};
 
 use crate::NoMemory;
 use sk_expr::{Expr, Frame, Tree, V3};

@@ -14,7 +14,7 @@ ghost use Rattle.sk_expr.specs.Follows.{Follows};
 ghost use Rattle.sk_system.specs.GroupSystem.{add_formula, add_formulas, is_within, reading_or_zero, act_of};
 ghost use Rattle.sk_system.specs.Fits.{FormulasFit};
 ghost use Rattle.sk_system.specs.Sizes.{auxiliaries_in, cosines_in, rows_in};
-ghost use Rattle.sk_system.specs.Visited.{IsSeen, IsVisit};
+ghost use Rattle.sk_system.specs.Visited.{IsVisit};
 ghost use Rattle.sk_system.specs.Views.{numbers_view, formula_view};
 ghost use Rattle.sk_system.specs.declared.formulas.NamedFormula.{NamedFormula as KeptFormula};
 

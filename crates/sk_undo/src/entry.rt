@@ -1,4 +1,4 @@
-ghost use Rattle.std.specs.Prelude.{◌≡◌, ◌≤◌, ◌+◌, ◌++◌, ◌-◌, List, ℕ, length, take, drop, IfOk};
+ghost use Rattle.std.specs.Prelude.{◌≡◌, ◌≤◌, ◌+◌, ◌-◌, List, ℕ, length, IfOk};
 ghost use Rattle.sk_undo.specs.Changes.{entry_between, earlier_text, later_text, between, replaced};
 
 use crate::NoMemory;
